@@ -16,14 +16,16 @@ from bisect import bisect_left
 FRAME = 4 + 1
 """The length of a frame and its kind; the frame that ends a message has nothing more."""
 FINGERPRINT = 32
+COMPACT_FINGERPRINT = 12
 HELLO = 4
 
 
 class Table:
     """What is done with a range, by the number of its items: listed, or cut into shares."""
 
-    def __init__(self, cap, rows, bounds="items"):
+    def __init__(self, cap, rows, bounds="items", opening="sum"):
         self.cap = cap
+        self.opening = opening
         self.tops = [row["upto"] for row in rows]
         self.rows = rows
         self.bounds = bounds
@@ -33,7 +35,7 @@ class Table:
     def read(path):
         with open(path, "rb") as file:
             text = tomllib.load(file)
-        return Table(text["cap"], text["row"], text.get("bounds", "items"))
+        return Table(text["cap"], text["row"], text.get("bounds", "items"), text.get("opening", "sum"))
 
     def cuts(self, count):
         """The places of a range's items at which its parts begin, but the first part's; None where it is listed."""
@@ -68,10 +70,36 @@ class Table:
         return [*steps, self.cap]
 
 
+def shared(one, other):
+    """How many bytes two byte strings begin with alike."""
+    differ = (place for place, (byte, next_byte) in enumerate(zip(one, other)) if byte != next_byte)
+    return next(differ, min(len(one), len(other)))
+
+
 def separator_length(item, next_item):
     """The length of the shortest byte string that is after an item and not after the next one."""
-    same = (place for place, (one, other) in enumerate(zip(item, next_item)) if one != other)
-    return next(same, len(item)) + 1
+    return shared(item, next_item) + 1
+
+
+def number_length(number):
+    """The bytes of a number of which each byte has seven bits."""
+    return max(1, (number.bit_length() + 6) // 7)
+
+
+def compact_bound(before, bound):
+    """The bytes of a bound in the compact profile, written against the one before; None is the end."""
+    if bound is None:
+        return 1
+    same = shared(before, bound)
+    return 1 + (same >= 7) + (len(bound) - same >= 7) + len(bound) - same
+
+
+def compact_items(lower, items):
+    """The bytes of items in the compact profile, of which the first is written against the lower bound."""
+    if not items:
+        return 0
+    per_item = 1 + (len({len(item) for item in items}) > 1)
+    return 1 + sum(per_item + len(item) - shared(before, item) for before, item in itertools.pairwise([lower, *items]))
 
 
 class Side:
@@ -140,6 +168,50 @@ class Pair:
         listed = before[high] - before[low]
         return size + 4 + (listed + 7) // 8 + self.lacked(side, low, high)
 
+    def text_of(self, bound):
+        """A bound as bytes; None is the end."""
+        place, length = bound
+        if place == len(self.everything):
+            return None
+        return self.everything[place][:length]
+
+    def compact_bytes_of(self, side, part, come_to):
+        """The same in the compact profile, after the bound that the message has come to, and the part's upper bound."""
+        kind, lower_bound, upper_bound = part
+        lower, upper = self.text_of(lower_bound) or b"", self.text_of(upper_bound)
+        size = (lower != come_to and compact_bound(come_to, lower)) + compact_bound(lower, upper)
+        low, high = lower_bound[0], upper_bound[0]
+        has, other = self.sides[side].before, self.sides[1 - side].before
+        own = [at for at in range(low, high) if has[at + 1] > has[at]] if kind != "sum" else []
+        if kind == "sum":
+            return size + COMPACT_FINGERPRINT, upper
+        if kind == "list":
+            field = compact_items(lower, [self.everything[at] for at in own])
+        else:
+            marks = other[high] - other[low]
+            lacked = [self.everything[at] for at in own if other[at + 1] == other[at]]
+            field = number_length(marks) + (marks + 7) // 8 + compact_items(lower, lacked)
+        return size + number_length(field) + field, upper
+
+    def opening(self, table, profile):
+        """The parts that a session begins with."""
+        everything = ("sum", (0, 0), (len(self.everything), 0))
+        if profile != "compact" or table.opening != "split":
+            return [everything]
+        return self.cut(0, table, everything) or [everything]
+
+    def cut(self, side, table, part):
+        """The parts that the side cuts a range into, or None where it lists it."""
+        _, lower, upper = part
+        own = self.sides[side]
+        first = own.before[lower[0]]
+        cuts = table.cuts(own.before[upper[0]] - first)
+        if cuts is None:
+            return None
+        places = own.bounds(table.bounds)
+        bounds = [lower, *(places[first + cut] for cut in cuts), upper]
+        return [("sum", *pair) for pair in itertools.pairwise(bounds)]
+
     def reply(self, side, table, part):
         """The parts that the side sends in reply to a part of the other."""
         kind, lower, upper = part
@@ -148,32 +220,31 @@ class Pair:
         low, high = lower[0], upper[0]
         if kind == "answer" or self.differing[low] == self.differing[high]:
             return []
-        own = self.sides[side]
-        first = own.before[low]
-        cuts = table.cuts(own.before[high] - first)
-        if cuts is None:
-            return [("list", lower, upper)]
-        places = own.bounds(table.bounds)
-        bounds = [lower, *(places[first + cut] for cut in cuts), upper]
-        return [("sum", *pair) for pair in itertools.pairwise(bounds)]
+        return self.cut(side, table, part) or [("list", lower, upper)]
 
 
 class Message:
     """The bytes of a message, and its number of parts."""
 
-    def __init__(self, pair, side, parts):
+    def __init__(self, pair, side, parts, profile=1):
         self.parts = len(parts)
-        self.bytes = FRAME + sum(pair.bytes_of(side, part) for part in parts)
+        if profile == "compact":
+            self.bytes, come_to = 1, b""
+            for part in parts:
+                size, come_to = pair.compact_bytes_of(side, part, come_to)
+                self.bytes += size
+        else:
+            self.bytes = FRAME + sum(pair.bytes_of(side, part) for part in parts)
 
 
-def session(pair, tables):
-    """The messages of a session between the two sides, under the table of each."""
-    parts = [("sum", (0, 0), (len(pair.everything), 0))]
-    messages = [Message(pair, 0, parts)]
+def session(pair, tables, profile=1):
+    """The messages of a session in profile 1 or the compact one between the two sides, under the table of each."""
+    parts = pair.opening(tables[0], profile)
+    messages = [Message(pair, 0, parts, profile)]
     while any(kind != "answer" for kind, _, _ in parts):
         side = len(messages) % 2
         parts = [reply for part in parts for reply in pair.reply(side, tables[side], part)]
-        messages.append(Message(pair, side, parts))
+        messages.append(Message(pair, side, parts, profile))
     return messages
 
 
@@ -208,11 +279,6 @@ class Cost:
                 windows[side] *= 2
             seconds += round_trip / 2 + left * 8 / (megabits * 1e6)
         return seconds
-
-
-def number_length(number):
-    """The bytes of a number of which each byte has seven bits."""
-    return max(1, (number.bit_length() + 6) // 7)
 
 
 class Negentropy:

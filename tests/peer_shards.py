@@ -4,7 +4,7 @@ session."""
 import hashlib
 from dataclasses import dataclass, field
 
-from peer import HELLOS, Input, Refused, Side, dial, fingerprint, is_inside, read_hello, require, serve
+from peer import Input, Refused, Side, dial, fingerprint, is_inside, profile_of, read_hello, require, serve
 
 WHOLE_MARK, PART_MARK, DIRECTORY, ENTRY, MOST_IN_A_SHARD = b"RRSN", b"RRSP", 0xFFFF, 38, 65_536
 LONGEST = 64
@@ -120,7 +120,7 @@ class Shards:
             try:
                 side.items = self.part(*self.selected(Input(peer)))
             except Refused:
-                side.own_hello(2 if side.source.rest.startswith(HELLOS[2]) else 1)
+                side.own_hello(profile_of(side.source.rest[:4]) or 1)
                 raise
             read_hello(side)
 

@@ -206,7 +206,8 @@ for (const each of casesOf("shards")) {
 for (const each of casesOf("tables")) {
     test(each.name, () => {
         const { name, ...keys } = each;
-        hasKeys(keys, ["cap", "limit", "rounds", "row", ...("bounds" in keys ? ["bounds"] : [])]);
+        const given = ["bounds", "opening"].filter((key) => key in keys);
+        hasKeys(keys, ["cap", "limit", "rounds", "row", ...given]);
         assert.ok(Strategy.from(keys).cap > 0);
     });
 }

@@ -29,9 +29,10 @@ export function fileOf(path) {
     return readFileSync(new URL(path, TOP));
 }
 
-/** The cases of a folder, with their names; `set` is the name of a set. */
+/** The cases of a folder, with their names; `set` is the name of a set. The package speaks no compact profile. */
 export function casesOf(folder) {
-    const names = readdirSync(new URL(folder, CASES)).filter((name) => name.endsWith(".toml"));
+    const files = readdirSync(new URL(folder, CASES)).filter((name) => name.endsWith(".toml"));
+    const names = files.filter((name) => !name.includes("compact-"));
     if (names.length === 0) throw new Error(`no case in ${folder}`);
     return names.map((file) => {
         const name = `${folder}/${file}`;

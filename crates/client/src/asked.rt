@@ -8,10 +8,10 @@ use crate::sync::sync;
 use crate::sync_shards::{AskingShards, sync_shards};
 use crate::talking::{Spoken, Talk};
 use item_core::Range;
-use item_files::{ItemForm, WireProfile};
+use item_files::ItemForm;
 use loading::{Sources, Target, load, load_shards};
 use printing_core::{Listing, Refusal, difference_status};
-use settings_core::SyncWords;
+use settings_core::{AskedProfile, SyncWords};
 use shard_core::{Floor, SetName, Which};
 use std::fs::File;
 use std::io;
@@ -31,8 +31,8 @@ const AT_ONCE: u32 = 8;
 pub struct Asking<'a> {
     /// The address to connect to.
     pub address: &'a str,
-    /// The wire profile that is spoken.
-    pub profile: WireProfile,
+    /// The wire profile that is to be spoken.
+    pub profile: AskedProfile,
     /// How what is learned is printed.
     pub listing: Listing,
     /// What the connection may cost.
@@ -106,10 +106,12 @@ impl<'a> Asking<'a> {
     }
 
     /// How a session over one set is run.
-    pub fn talk(&self) -> Talk<'a> {
+    pub fn talk(&self) -> Talk<'a>
+        ensures { (result.profile ≡ self.now.profile) × (result.limits ≡ self.now.limits) }
+    {
         Talk {
             profile: self.profile,
-            most_bytes: self.limits.most_bytes,
+            limits: self.limits,
             set: self.set.map(|set| Spoken {
                 set,
                 which: Which::Shard(0),

@@ -8,17 +8,19 @@ ghost use Rattle.definitions.specs.Sets.{IsSet};
 ghost use Rattle.shard_core.specs.Shards.{max_bits};
 ghost use Rattle.shard_core.specs.Directories.{differing};
 ghost use Rattle.shard_core.specs.Choices.{AreBelow};
+ghost use Rattle.settings_core.specs.declared.profiles.AskedProfile.TheVariants as asked;
 ghost use Rattle.version_log.specs.Logs.{IsCap};
 
+use crate::calling::Call;
 use crate::costs::Costs;
-use crate::reaching::connect_to;
-use crate::talking::{Spoken, Talk, converse};
+use crate::talking::{Spoken, Talk};
 use crate::trying::Tries;
 use ends_core::Learned;
 use item_core::{Item, Range};
 use item_files::WireProfile;
 use peer_threads::Outcome;
-use printing_core::{Fault, Refusal, Stats, learned_in};
+use printing_core::{Fault, Refusal, learned_in};
+use settings_core::AskedProfile;
 use shard_core::{
     Asked, ChoiceFault, DirectoryFault, SetName, Unequal, Which, asked_of, differing,
 };
@@ -29,14 +31,14 @@ use std::rt::Files;
 use std::sync::{Arc, Wait};
 use std::time::Clock;
 use strategy_check::Accepted;
-use tcp_front::{Limits, finish};
+use tcp_front::Limits;
 use version_log::Log;
 
 /// How servers are asked for parts of a set.
 #[derive(Clone, Copy)]
 pub struct Asker<'a> {
     /// The wire profile that is spoken.
-    pub profile: WireProfile,
+    pub profile: AskedProfile,
     /// What a connection may cost.
     pub limits: Limits,
     /// What the set is called, and how it is cut.
@@ -46,22 +48,29 @@ pub struct Asker<'a> {
 }
 
 impl<'a> Asker<'a> {
+    /// The same in this profile and no other.
+    pub fn only_in(self, profile: WireProfile) -> Asker<'a>
+        ensures { result.profile ≡ asked.Exactly profile }
+    {
+        Asker {
+            profile: AskedProfile::Exactly(profile),
+            ..self
+        }
+    }
+
     /// How a session over this part is run.
-    pub fn talk(&self, which: Which) -> Talk<'a> {
+    pub fn talk(&self, which: Which) -> Talk<'a>
+        ensures { (result.profile ≡ self.now.profile) × (result.limits ≡ self.now.limits) }
+    {
         Talk {
             profile: self.profile,
-            most_bytes: self.limits.most_bytes,
+            limits: self.limits,
             set: Some(Spoken {
                 set: self.set,
                 which,
                 range: self.part,
             }),
         }
-    }
-
-    /// How many bytes may still be read of a connection after its session.
-    pub fn left(&self, stats: Stats) -> u64 {
-        u64::from(self.limits.most_bytes).saturating_sub(stats.received.bytes)
     }
 }
 
@@ -142,11 +151,10 @@ where
     R: Files + Net<Stream = TcpStream> + Wait + Clock + AllocGlobal,
 {
     let alloc = rt.alloc();
-    let stream = connect_to(rt, address, asker.limits.patience)?;
+    let call = Call::to(rt, address, asker.limits.patience)?;
     let log = Log::of_set(alloc, own.cap, own.entries)?;
     let talk = asker.talk(Which::Directory);
-    let (outcome, stats) = converse(rt, alloc, own.accepted, log, talk, (&stream, &stream))?;
-    finish(rt, &stream, asker.left(stats));
+    let (outcome, stats) = call.run(rt, own.accepted, log, talk)?;
     costs.add(stats, outcome.sent());
     told_of(alloc, asker, stats.received.bytes, &outcome)
 }

@@ -3,6 +3,7 @@
 #![tactic(auto)]
 
 mod asked;
+mod calling;
 mod costs;
 mod directories;
 mod door;
@@ -11,6 +12,7 @@ mod keeping;
 mod printing;
 mod reaching;
 mod sessions;
+mod shard_session;
 mod stdio;
 mod sync;
 mod sync_shards;

@@ -1,70 +1,25 @@
 //! Sessions over shards, several at once.
 
-ghost use Rattle.std.specs.Prelude.{◌≡◌, ◌≤◌, IfOk};
-ghost use Rattle.std.specs.Arc.{arc_value};
+ghost use Rattle.std.specs.Prelude.{◌≡◌, ◌↔◌, IsTrue};
+ghost use Rattle.settings_core.specs.declared.profiles.AskedProfile.TheVariants as asked;
 
+use crate::calling::Call;
 use crate::costs::Costs;
 use crate::directories::Asker;
-use crate::reaching::connect_to;
-use crate::talking::converse;
+use crate::shard_session::{Heard, Ready, Work, run_batch};
 use crate::trying::Tries;
-use ends_core::Learned;
-use peer_threads::Outcome;
-use printing_core::{Fault, Refusal, Stats, end_progress, learned_in, tell_progress, tell_stats};
-use range_tree::Tree;
-use shard_core::{ShardPart, Which};
+use item_files::WireProfile;
+use printing_core::{Fault, Refusal, Stats, end_progress, tell_progress, tell_stats};
+use settings_core::AskedProfile;
+use shard_core::ShardPart;
 use std::alloc::{AllocError, Global};
 use std::io::Write;
+use std::mem;
 use std::net::{Net, TcpStream};
 use std::rt::Files;
-use std::sync::{Arc, Wait};
+use std::sync::Wait;
 use std::thread::Threads;
 use std::time::Clock;
-use std::{mem, thread};
-use strategy_check::Accepted;
-use tcp_front::{Stream, finish};
-use version_log::Log;
-
-/// A shard that is asked for, and our log of it.
-#[derive(Drop)]
-pub struct Work<'a> {
-    /// The shard's number.
-    pub number: u16,
-    /// The address of the server that is asked.
-    pub address: &'a str,
-    /// The strategy.
-    pub accepted: Arc<Accepted>,
-    /// The log, which is let go with the session.
-    pub log: Log<Tree>,
-    ghost fits: { log.cap ≤ (arc_value accepted).table.cap },
-}
-
-impl<'a> Work<'a> {
-    /// The same work again.
-    fn copy(&self, alloc: Global) -> Result<Work<'a>, AllocError> {
-        Ok(Work {
-            number: self.number,
-            address: self.address,
-            accepted: Arc::try_clone(&self.accepted)?,
-            log: self.log.copy(alloc)?,
-        })
-    }
-}
-
-/// A shard that is asked for over this connection.
-#[derive(Drop)]
-struct Ready<'a> {
-    work: Work<'a>,
-    stream: Stream,
-}
-
-/// How the session over a shard ended.
-#[derive(Drop)]
-struct Heard {
-    number: u16,
-    found: Result<ShardPart, Fault>,
-    cost: Option<(Stats, u32)>,
-}
 
 /// What came of the session over a shard, and its work, if it was kept.
 #[derive(Drop)]
@@ -72,62 +27,8 @@ struct Came<'a> {
     number: u16,
     found: Result<ShardPart, Fault>,
     cost: Option<(Stats, u32)>,
+    unknown: bool,
     again: Option<Work<'a>>,
-}
-
-/// What was learned of a shard.
-fn learned_of(alloc: Global, number: u16, learned: &Learned) -> Result<ShardPart, AllocError>
-    ensures { IfOk result (λ p. (p.number ≡ number) × (p.ours.items ≡ learned.now.ours)
-        × (p.theirs.items ≡ learned.now.theirs)) }
-{
-    Ok(ShardPart {
-        number,
-        ours: learned.ours().to_vec(alloc)?,
-        theirs: learned.theirs().to_vec(alloc)?,
-    })
-}
-
-/// What a session over a shard learned, if it ended.
-fn part_of(alloc: Global, number: u16, outcome: &Outcome) -> Result<ShardPart, Fault> {
-    let learned = learned_in(outcome)?;
-    Ok(learned_of(alloc, number, learned)?)
-}
-
-/// Runs the session over a shard.
-fn run_one<R: Wait + Clock>(rt: &R, alloc: Global, asker: Asker<'_>, ready: Ready<'_>) -> Heard {
-    let Ready { work, stream } = ready;
-    let Work {
-        number,
-        accepted,
-        log,
-        ..
-    } = work;
-    let talk = asker.talk(Which::Shard(number));
-    match converse(rt, alloc, &accepted, log, talk, (&stream, &stream)) {
-        Ok((outcome, stats)) => {
-            finish(rt, &stream, asker.left(stats));
-            Heard {
-                number,
-                found: part_of(alloc, number, &outcome),
-                cost: Some((stats, outcome.sent())),
-            }
-        }
-        Err(fault) => Heard {
-            number,
-            found: Err(fault),
-            cost: None,
-        },
-    }
-}
-
-/// Runs these sessions at once, each in a thread of its own where one can be made.
-fn run_batch<R: Threads + Wait + Clock + Sync>(
-    rt: &R,
-    alloc: Global,
-    asker: Asker<'_>,
-    batch: Vec<Ready<'_>>,
-) -> Result<Vec<Heard>, AllocError> {
-    thread::map_vec(rt, batch, &|ready| run_one(rt, alloc, asker, ready))
 }
 
 /// Shards that are asked for at once: those to which there is a connection, the same works again in the same order, if
@@ -142,7 +43,7 @@ struct Batch<'a> {
 
 impl<'a> Batch<'a> {
     /// Connects to the server of a shard, unless one was not reached before. The work is kept where it may be tried
-    /// again.
+    /// again, also in another profile.
     fn add<R: Files + Net<Stream = TcpStream> + AllocGlobal>(
         &mut self,
         rt: &R,
@@ -153,12 +54,12 @@ impl<'a> Batch<'a> {
             self.left.push(work)?;
             return Ok(());
         }
-        match connect_to(rt, work.address, crew.asker.limits.patience) {
-            Ok(stream) => {
-                if crew.keeps {
+        match Call::to(rt, work.address, crew.asker.limits.patience) {
+            Ok(call) => {
+                if crew.keeps || crew.is_best() {
                     self.kept.push(work.copy(rt.alloc())?)?;
                 }
-                self.ready.push(Ready { work, stream })?;
+                self.ready.push(Ready { work, call })?;
             }
             Err(refusal) => {
                 self.fault = Some(refusal);
@@ -199,6 +100,8 @@ pub struct Gathered<'a> {
     pub first: Option<(u16, Refusal<'a>)>,
     /// Those that are tried again.
     again: Vec<Work<'a>>,
+    /// Those that are asked for in profile 1, as their servers do not know the compact one.
+    plain: Vec<Work<'a>>,
     /// What all sessions cost.
     pub costs: Costs,
     /// How many items were found.
@@ -213,6 +116,7 @@ impl<'a> Gathered<'a> {
             undone: Vec::new(alloc),
             first: None,
             again: Vec::new(alloc),
+            plain: Vec::new(alloc),
             costs,
             items: 0,
         }
@@ -233,15 +137,20 @@ impl<'a> Gathered<'a> {
         Ok(())
     }
 
-    /// Takes what came of a session. Where it did not come to its end and may do so, its work is tried again, if it was
-    /// kept.
-    fn take(&mut self, asker: Asker<'_>, came: Came<'a>) -> Result<(), AllocError> {
+    /// Takes what came of a session. Where it did not come to its end and may do so, its work is tried again, if that is
+    /// asked for; and where the server does not know the best profile, it is asked for in profile 1.
+    fn take(&mut self, crew: Crew<'_>, came: Came<'a>) -> Result<(), AllocError> {
         let Came {
             number,
             found,
             cost,
+            unknown,
             again,
         } = came;
+        let again = match again {
+            Some(work) if unknown && crew.is_best() => return Ok(self.plain.push(work)?),
+            again => again,
+        };
         let mut received = 0;
         if let Some((stats, sent)) = cost {
             received = stats.received.bytes;
@@ -252,13 +161,13 @@ impl<'a> Gathered<'a> {
             Err(fault) => fault,
         };
         match again {
-            Some(work) if fault.may_pass() => {
+            Some(work) if crew.keeps && fault.may_pass() => {
                 self.again.push(work)?;
                 Ok(())
             }
             _ => self.leave(
                 number,
-                Refusal::of_session_after(asker.limits, received, fault),
+                Refusal::of_session_after(crew.asker.limits, received, fault),
             ),
         }
     }
@@ -279,7 +188,7 @@ impl<'a> Gathered<'a> {
     /// Takes what came of sessions, whose works are these in the same order, if they were kept.
     fn take_all(
         &mut self,
-        asker: Asker<'_>,
+        crew: Crew<'_>,
         all: Vec<Heard>,
         kept: Vec<Work<'a>>,
     ) -> Result<(), AllocError> {
@@ -290,13 +199,15 @@ impl<'a> Gathered<'a> {
                 number,
                 found,
                 cost,
+                unknown,
             } = heard;
             self.take(
-                asker,
+                crew,
                 Came {
                     number,
                     found,
                     cost,
+                    unknown,
                     again: kept.pop(),
                 },
             )?;
@@ -343,6 +254,11 @@ impl<'a> Gathered<'a> {
         Ok(())
     }
 
+    /// The works that are asked for in profile 1, which are taken out.
+    fn take_plain(&mut self, alloc: Global) -> Vec<Work<'a>> {
+        mem::replace(&mut self.plain, Vec::new(alloc))
+    }
+
     /// The works that are tried again, which are taken out.
     fn take_again(&mut self, alloc: Global) -> Vec<Work<'a>> {
         mem::replace(&mut self.again, Vec::new(alloc))
@@ -362,7 +278,24 @@ pub struct Crew<'a> {
     pub keeps: bool,
 }
 
-impl Crew<'_> {
+impl<'a> Crew<'a> {
+    /// Whether the best profile is asked for.
+    fn is_best(self) -> bool
+        ensures { IsTrue result ↔ (self.entry.asker.profile ≡ asked.Best) }
+    {
+        self.asker.profile == AskedProfile::Best
+    }
+
+    /// The same crew, in this profile and no other.
+    fn only_in(self, profile: WireProfile) -> Crew<'a>
+        ensures { result.asker.profile ≡ asked.Exactly profile }
+    {
+        Crew {
+            asker: self.asker.only_in(profile),
+            ..self
+        }
+    }
+
     /// Shows how far all is.
     fn show<E: Write>(&self, gathered: &Gathered<'_>, err: &mut E) {
         if let Some(of) = self.shown {
@@ -372,8 +305,8 @@ impl Crew<'_> {
     }
 }
 
-/// Runs the sessions over the first of these shards, as many as run at once. Whether all their servers were reached.
-fn run_some<'a, R>(
+/// Runs the sessions over these shards at once. Whether all their servers were reached.
+fn ask_some<'a, R>(
     rt: &R,
     crew: Crew<'a>,
     works: Vec<Work<'a>>,
@@ -389,8 +322,28 @@ where
         fault,
     } = connect_all(rt, crew, works)?;
     let came = run_batch(rt, rt.alloc(), crew.asker, ready)?;
-    gathered.take_all(crew.asker, came, kept)?;
+    gathered.take_all(crew, came, kept)?;
     gathered.leave_unreached(crew, left, fault)
+}
+
+/// The same, and once more in profile 1 over those whose servers do not know the compact one, if the best profile is
+/// asked for.
+fn run_some<'a, R>(
+    rt: &R,
+    crew: Crew<'a>,
+    works: Vec<Work<'a>>,
+    gathered: &mut Gathered<'a>,
+) -> Result<bool, AllocError>
+where
+    R: Files + Net<Stream = TcpStream> + Threads + Wait + Clock + AllocGlobal + Sync,
+{
+    let reached = ask_some(rt, crew, works, gathered)?;
+    let plain = gathered.take_plain(rt.alloc());
+    if plain.is_empty() {
+        return Ok(reached);
+    }
+    let reached_again = ask_some(rt, crew.only_in(WireProfile::One), plain, gathered)?;
+    Ok(reached && reached_again)
 }
 
 /// Runs a session over each of these shards, so many at once, and takes what comes of them. Where a server is not

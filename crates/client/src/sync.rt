@@ -4,9 +4,9 @@ ghost use Rattle.std.specs.Prelude.{◌≡◌, ◌≤◌};
 ghost use Rattle.std.specs.Arc.{arc_value};
 
 use crate::asked::Asking;
+use crate::calling::Call;
 use crate::keeping::{keep_learned, open_keep_file};
 use crate::printing::{create_file, print_to};
-use crate::reaching::connect_to;
 use crate::talking::converse;
 use crate::trying::Tries;
 use loading::Loaded;
@@ -22,7 +22,6 @@ use std::rt::Files;
 use std::sync::{Arc, Wait};
 use std::time::Clock;
 use strategy_check::Accepted;
-use tcp_front::{Limits, finish};
 use version_log::Log;
 
 /// Runs one session as the initiator, over this reader and this writer. What comes of it, and what it cost. Else 90, or
@@ -53,16 +52,8 @@ where
     R: Files + Net<Stream = TcpStream> + Wait + Clock + AllocGlobal,
     requires cap { log.cap ≤ (arc_value accepted.now).table.cap }
 {
-    let Limits {
-        patience,
-        most_bytes,
-    } = asking.limits;
-    let stream = connect_to(rt, asking.address, patience)?;
-    let ends = (&stream, &stream);
-    let (outcome, stats) = converse(rt, rt.alloc(), accepted, log, asking.talk(), ends)?;
-    let left = u64::from(most_bytes).saturating_sub(stats.received.bytes);
-    finish(rt, &stream, left);
-    Ok((outcome, stats))
+    let call = Call::to(rt, asking.address, asking.limits.patience)?;
+    call.run(rt, accepted, log, asking.talk())
 }
 
 /// Why a session did not come to its end, or was not begun.

@@ -17,7 +17,8 @@ use crate::costs::Costs;
 use crate::directories::{Asker, Own, choose};
 use crate::keeping::{keep_parts, open_keep_file};
 use crate::printing::{create_file, print_to};
-use crate::sessions::{Crew, Gathered, Work, run_sessions};
+use crate::sessions::{Crew, Gathered, run_sessions};
+use crate::shard_session::Work;
 use crate::trying::Tries;
 use loading::Loaded;
 use printing_core::{

@@ -2,23 +2,27 @@
 
 ghost use Rattle.std.specs.Prelude.{◌≡◌, ◌≤◌};
 ghost use Rattle.std.specs.Arc.{arc_value};
+ghost use Rattle.settings_core.specs.declared.profiles.AskedProfile.TheVariants as asked;
 
-use digest_core::{Counted, Fingerprint, WireSummary};
+use digest_core::{Counted, Fingerprint, Print, WireSummary};
 use io_core::{Watched, write_output};
 use item_core::Range;
 use item_files::WireProfile;
-use loading::{Metered, millis_since};
+use loading::{
+    FrameReader, FrameWriter, frames_from, frames_to, millis_since, received_by, sent_by,
+};
 use peer_threads::{Connection, OpenGate, Outcome, Shared, dial_one};
 use printing_core::{Fault, Stats};
 use range_tree::Tree;
 use session_table::SessionTable;
+use settings_core::AskedProfile;
 use shard_core::{SetName, Which};
 use std::alloc::Global;
 use std::io::{Read, Write};
 use std::sync::{Arc, Mutex, Wait};
 use std::time::{Clock, Instant};
 use strategy_check::Accepted;
-use tcp_front::limited;
+use tcp_front::{Limits, limited};
 use version_lock::{Seat, VersionLock};
 use version_log::Log;
 
@@ -37,20 +41,35 @@ pub struct Spoken<'a> {
 #[derive(Clone, Copy)]
 pub struct Talk<'a> {
     /// The wire profile that is spoken.
-    pub profile: WireProfile,
-    /// How many bytes are read.
-    pub most_bytes: u32,
+    pub profile: AskedProfile,
+    /// What a connection may cost.
+    pub limits: Limits,
     /// Of what the other side is told that it is spoken, if it is told.
     pub set: Option<Spoken<'a>>,
 }
 
-/// Speaks first in the profile of the summary, over this reader and this writer. What comes of it, and what it cost.
+impl<'a> Talk<'a> {
+    /// The same in this profile and no other.
+    pub fn only_in(self, profile: WireProfile) -> Talk<'a>
+        ensures { (result.profile ≡ asked.Exactly profile) × (result.limits ≡ self.entry.limits)
+            × (result.set ≡ self.entry.set) }
+    {
+        Talk {
+            profile: AskedProfile::Exactly(profile),
+            ..self
+        }
+    }
+}
+
+/// Speaks first with such summaries, over this reader and this writer; reads no more than so many bytes of frames. What
+/// comes of it, and what it cost.
 fn dial<R: Wait + Clock, I: Read + Drop, O: Write + Drop, F: WireSummary>(
     rt: &R,
     alloc: Global,
     shared: &Shared<'_, Tree, OpenGate>,
     seat: &mut Seat<Tree>,
-    ends: (I, O),
+    ends: (FrameReader<I>, FrameWriter<O>),
+    most_bytes: u32,
 ) -> (Outcome, Stats)
     requires lock { seat.old.table_id ≡ shared.now.lock.now }
     requires fits { seat.old.view.cap ≤ (arc_value shared.now.accepted.now).table.cap }
@@ -58,12 +77,12 @@ fn dial<R: Wait + Clock, I: Read + Drop, O: Write + Drop, F: WireSummary>(
 {
     let (reader, writer) = ends;
     let start = Instant::now(rt).ok();
-    let mut connection = Connection::new(Metered::new(reader), Metered::new(writer));
+    let mut connection = Connection::new(limited(reader, most_bytes), writer);
     let outcome = dial_one::<_, _, _, _, _, F>(rt, alloc, shared, seat, &mut connection);
     let Connection { reader, writer } = connection;
     let stats = Stats {
-        sent: writer.into_inner().tally(),
-        received: reader.into_inner().tally(),
+        sent: sent_by(&writer.into_inner()),
+        received: received_by(&reader.into_inner().into_inner()),
         millis: millis_since(rt, start),
     };
     (outcome, stats)
@@ -84,8 +103,8 @@ fn name_set<O: Write>(
     Ok(selector.len() as u64)
 }
 
-/// Runs one session as the initiator over this log, which is let go, and over this reader and this writer. What comes
-/// of it, and what it cost. Else 90, or `io write` before it has begun.
+/// Runs one session as the initiator, in the first profile that is asked for, over this log, which is let go, and over
+/// this reader and this writer. What comes of it, and what it cost. Else 90, or `io write` before it has begun.
 pub fn converse<R: Wait + Clock, I: Read + Drop, O: Write + Drop>(
     rt: &R,
     alloc: Global,
@@ -106,10 +125,12 @@ pub fn converse<R: Wait + Clock, I: Read + Drop, O: Write + Drop>(
     };
     let (reader, mut writer) = ends;
     let named = name_set(alloc, talk.set, &mut writer)?;
-    let ends = (limited(reader, talk.most_bytes), writer);
-    let (outcome, mut stats) = match talk.profile {
-        WireProfile::One => dial::<_, _, _, Fingerprint>(rt, alloc, &shared, &mut seat, ends),
-        WireProfile::Two => dial::<_, _, _, Counted>(rt, alloc, &shared, &mut seat, ends),
+    let ends = (frames_from(alloc, reader), frames_to(alloc, writer));
+    let most = talk.limits.most_bytes;
+    let (outcome, mut stats) = match talk.profile.first() {
+        WireProfile::One => dial::<_, _, _, Fingerprint>(rt, alloc, &shared, &mut seat, ends, most),
+        WireProfile::Two => dial::<_, _, _, Counted>(rt, alloc, &shared, &mut seat, ends, most),
+        WireProfile::Compact => dial::<_, _, _, Print>(rt, alloc, &shared, &mut seat, ends, most),
     };
     stats.sent.bytes = stats.sent.bytes.saturating_add(named);
     Ok((outcome, stats))

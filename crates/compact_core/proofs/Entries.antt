@@ -42,7 +42,8 @@ entries_step width y room first before bytes after x front all some fuel read =
     let k : all - length front ≡ suc (all - (length front + 1)) = omega arith in
     let left : room - (1 + length x) ≡ room - suc (length x) = omega arith in
     rw (others_some (entries_from (all - length front) width y room first before) bytes some, k, read, left)
-    (regroup front x (others_from (entries_from (all - (length front + 1)) width y (room - suc (length x)) false x) after))
+    (regroup front x
+    (others_from (entries_from (all - (length front + 1)) width y (room - suc (length x)) false x) after))
 
 pub entries_stop : (width : ℕ) (y : Option (List ℕ)) (room : ℕ) (first : Bool) (before bytes : List ℕ)
     (front : List Item) (all : ℕ) (e : ReadError) (total : Reading (List Item)) → 0 < length bytes →
@@ -63,8 +64,9 @@ entries_stop width y room first before bytes front all (errors.Stop (stops.Fault
     rw (others_some (entries_from (all - length front) width y room first before) bytes some, k, read) refl in
     sym so_far ∙ one
 
-pub entries_end : (more : List ℕ → Reading (List Item)) (front : List Item) (bytes : List ℕ) (total : Reading (List Item)) →
-    length bytes ≡ 0 → with_items front (others_from more bytes) ≡ total → total ≡ gives front bytes
+pub entries_end : (more : List ℕ → Reading (List Item)) (front : List Item) (bytes : List ℕ)
+    (total : Reading (List Item)) → length bytes ≡ 0 → with_items front (others_from more bytes) ≡ total →
+    total ≡ gives front bytes
 entries_end more front [] total none so_far = sym so_far ∙ ap (λ (ns : List Item). gives ns []) (append-nil front)
 entries_end more front (b ∷ bytes) total none so_far = absurd (omega arith)
 

@@ -76,8 +76,8 @@ no_fault_join {F} P adds exact to kept piece more from fits h none =
     ∙ drop_front (was_begun kept) front (drop (was_begun u.kept) next) (begun_few kept)
     (λ some. frames_of_some P exact to from (kept ++ piece) fits (begun_some kept piece some))
 
-fault_join : {F : Type 0} (P : Profile F) → PiecesAdd P → (to : Option (List ℕ)) (kept piece more : List ℕ) → IsFrom to →
-    IsBytes (kept ++ piece) → IsBytes more → (code : ℕ) → (unpack P to (kept ++ piece)).fault ≡ Some code →
+fault_join : {F : Type 0} (P : Profile F) → PiecesAdd P → (to : Option (List ℕ)) (kept piece more : List ℕ) →
+    IsFrom to → IsBytes (kept ++ piece) → IsBytes more → (code : ℕ) → (unpack P to (kept ++ piece)).fault ≡ Some code →
     frames_anew P None to kept (piece ++ more) ≡ frames_anew P None to kept piece ++ []
 fault_join P adds to kept piece more from fits h code found =
     ap (λ (t : List ℕ). drop (was_begun kept) (frames_of P to t)) (sym (append_assoc kept piece more))
@@ -106,7 +106,8 @@ anew_join {F} P adds exact None to kept piece more from f g h = cases u.fault re
 pub frames_join : {F : Type 0} (P : Profile F) → PiecesAdd P → UnpackingIsExact P → (old : UnpackerState)
     (piece more : List ℕ) → IsFrom old.to → IsBytes old.kept → IsBytes piece → IsBytes more →
     frames_after P old (piece ++ more) ≡ frames_after P old piece ++ frames_after P (state_after P old piece) more
-frames_join P adds exact old piece more from f g h = anew_join P adds exact old.fault old.to old.kept piece more from f g h
+frames_join P adds exact old piece more from f g h =
+    anew_join P adds exact old.fault old.to old.kept piece more from f g h
 
 pub nothing_more : (x y : List ℕ) → x ≡ x ++ y → y ≡ []
 nothing_more x [] e = refl
@@ -114,7 +115,8 @@ nothing_more x (b ∷ y) e = absurd (omega (arith, ap length e, length-append x 
 
 -- all that has come was said
 pub frames_rest : {F : Type 0} (P : Profile F) → PiecesAdd P → UnpackingIsExact P → (old : UnpackerState)
-    (piece : List ℕ) → IsFrom old.to → IsBytes old.kept → IsBytes piece → frames_after P (state_after P old piece) [] ≡ []
+    (piece : List ℕ) → IsFrom old.to → IsBytes old.kept → IsBytes piece →
+    frames_after P (state_after P old piece) [] ≡ []
 frames_rest P adds exact old piece from f g =
     let join = frames_join P adds exact old piece [] from f g tt in
     nothing_more (frames_after P old piece) (frames_after P (state_after P old piece) [])

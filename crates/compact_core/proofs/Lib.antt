@@ -7,3 +7,6 @@ pub mod Packs
 pub mod Texts
 pub mod Frames
 pub mod Joined
+pub mod Opened
+pub mod Streamed
+pub mod Written

@@ -52,12 +52,14 @@ entries_more width before held out next text items i x low at is same so_far =
 pub entries_all : (width : ℕ) (before out text : List ℕ) (items : List Item) (i : ℕ) → length items ≤ i →
     out ++ entries_text width before (drop i items) ≡ text → out ≡ text
 entries_all width before out text items i high so_far =
-    sym (append-nil out) ∙ ap (λ (ys : List Item). out ++ entries_text width before ys) (sym (drop_all i items high)) ∙ so_far
+    sym (append-nil out)
+    ∙ ap (λ (ys : List Item). out ++ entries_text width before ys) (sym (drop_all i items high)) ∙ so_far
 
 -- ---- lengths
 
 entry_short : (width : ℕ) (before x : List ℕ) → length (entry_text width before x) ≤ 2 + length x
-entry_short width before x = cases (width == 0) (drop (shared before x) x) (omega (arith, length-drop (shared before x) x))
+entry_short width before x =
+    cases (width == 0) (drop (shared before x) x) (omega (arith, length-drop (shared before x) x))
   where
     cases : (b : Bool) (rest : List ℕ) → length rest ≤ length x →
         length (shared before x ∷ (if b then length rest ∷ rest else rest)) ≤ 2 + length x

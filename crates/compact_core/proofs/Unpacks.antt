@@ -42,7 +42,8 @@ units_step {F} P total text new z next bytes after e less read is there (suc fue
     ap (λ r. unpacked_by r z bytes (unpack_by P fuel)) read in (
       fuel,
       omega arith,
-      so_far ∙ ap (told P text) one ∙ told_with P text e u ∙ (λ i. told P (sym is i) (unpack_by P fuel (sym there i) after)),
+      so_far ∙ ap (told P text) one ∙ told_with P text e u
+          ∙ (λ i. told P (sym is i) (unpack_by P fuel (sym there i) after)),
     )
 
 told_none : {F : Type 0} (P : Profile F) (text : List ℕ) (z : Option (List ℕ)) (kept : List ℕ) (fault : Option ℕ) →

@@ -4,3 +4,7 @@ pub mod Places
 pub mod Packing
 pub mod Reached
 pub mod Spellings
+pub mod Openings
+pub mod Sendings
+pub mod Writes
+pub mod Unpackings

@@ -143,8 +143,8 @@ impl<F: WireSummary> Packer<F> {
 
     /// Appends the compact text of the frames that are whole now, and keeps the bytes of one that is not.
     ///
-    /// Bytes that are no frame are kept, and nothing more is appended. Where memory runs out, the packer and the text are
-    /// as before the call.
+    /// Bytes that are no frame are kept, and nothing more is appended. Where memory runs out, the packer and the text
+    /// are as before the call.
     pub fn push(
         &mut self,
         alloc: Global,

@@ -198,6 +198,13 @@ impl<F: WireSummary> Unpacker<F> {
         }
     }
 
+    /// How many bytes of an unfinished unit it keeps.
+    pub fn held(&self) -> usize
+        ensures { result ≡ length self.now.kept }
+    {
+        self.kept.len()
+    }
+
     /// Appends the frames that the piece completes.
     ///
     /// They are the frames of the kept bytes and the piece, but for the byte that was appended when a unit had begun.

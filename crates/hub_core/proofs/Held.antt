@@ -8,16 +8,12 @@ use Rattle.std.specs.Prelude.{IfNone, is_some}
 use Rattle.slab.specs.Slab.{Slab, get, with_value, Updates}
 use Rattle.slab.proofs.SlabLemmas.{Updates-with_value}
 use Rattle.hub_core.specs.Totals.{in_slot}
-use Rattle.hub_core.specs.Peers.{PeerState, kept_in}
-use Rattle.hub_core.specs.Hubs.{kept, held_by}
-use Rattle.hub_core.specs.declared.phase.Phase.{Phase}
-use Rattle.hub_core.specs.declared.phase.Phase.TheVariants as phases
+use Rattle.hub_core.specs.Peers.{PeerState, kept}
+use Rattle.hub_core.specs.Hubs.{held_by}
 use Rattle.hub_core.proofs.Totals.{total-one, total-has, total-none, total-below}
 
-pub kept-fits : (phase : Phase) → kept_in phase ≤ 2 ^ 64 - 1
-kept-fits (phases.Greeting g) = omega arith
-kept-fits (phases.Plain c) = omega arith
-kept-fits (phases.Counted c) = omega arith
+pub kept-fits : {I O : Type 0} (p : PeerState I O) → kept p ≤ 2 ^ 64 - 1
+kept-fits p = omega arith
 
 module _ {I O : Type 0} where
   held-one : (old new : Slab (PeerState I O)) (key : ℕ) (slot : Option (PeerState I O)) → Updates old new key slot →
@@ -64,14 +60,14 @@ module _ {I O : Type 0} where
   pub held-fits : (s : Slab (PeerState I O)) (n : ℕ) → length s.slots ≤ n → n < 2 ^ 64 →
       held_by s ≤ (2 ^ 64 - 1) * (2 ^ 64 - 1)
   held-fits s n slots small =
-      total-below kept s.slots (2 ^ 64 - 1) (2 ^ 64 - 1) (λ p. kept-fits p.phase) (omega (arith, slots, small))
+      total-below kept s.slots (2 ^ 64 - 1) (2 ^ 64 - 1) (λ p. kept-fits p) (omega (arith, slots, small))
 
   -- ---- the number that a hub holds
 
   pub room-for : (held n cap : ℕ) (s : Slab (PeerState I O)) (q : PeerState I O) → held ≡ held_by s → n ≡ kept q →
       length s.slots ≤ cap → cap < 2 ^ 64 → held + n < 2 ^ 128
   room-for held n cap s q is own slots small =
-      omega (arith, is, own, kept-fits q.phase, held-fits s cap slots small)
+      omega (arith, is, own, kept-fits q, held-fits s cap slots small)
 
   pub held-added : (held n : ℕ) (old new : Slab (PeerState I O)) (key : ℕ) (q : PeerState I O) → held ≡ held_by old →
       n ≡ kept q → get old key ≡ None → Updates old new key (Some q) → held + n ≡ held_by new

@@ -10,7 +10,7 @@ use Rattle.std.specs.Prelude.{◌||◌}
 use Rattle.std.specs.Box.{with_value}
 use Rattle.definitions.specs.Fingerprints.{Lanes}
 use Rattle.definitions.specs.Fingerprints as prints
-use Rattle.definitions.specs.Wire.{Profile, two_lane_profile, counted_profile}
+use Rattle.definitions.specs.Wire.{Profile, two_lane_profile, counted_profile, compact_profile}
 use Rattle.session_core.specs.Sessions.{SessionState}
 use Rattle.session_core.specs.Links.{Stands, Fails, pause_at, both_of}
 use Rattle.session_core.specs.Overs.{EndsBy}
@@ -138,6 +138,12 @@ pub counted-leaves : (q : Result Pumped LinkFault) (b : Box (SessionState prints
 counted-leaves (Ok p) b y r w stands fails = stands
 counted-leaves (Err f) b y r w stands fails = fails
 
+pub compact-leaves : (q : Result Pumped LinkFault) (b : Box (SessionState prints.Print) Global)
+    (y : SessionState prints.Print) (r w : Last) → Stands compact_profile q y r w → Fails q r w →
+    LeavesOff (phases.Compact (with_value b y)) r w q
+compact-leaves (Ok p) b y r w stands fails = stands
+compact-leaves (Err f) b y r w stands fails = fails
+
 -- ---- that an input is over
 
 pub ends-greeting : (f g h : GreetingState) (mid last : Last) → EndsGreeting f g mid → EndsGreeting g h last →
@@ -176,3 +182,13 @@ counted-ends (Ok p) old b x y last is same ends = λ over. elim (ends over) [
   | inr end ↦ inr end.0
 ]
 counted-ends (Err f) old b x y last is same ends = tt
+
+pub compact-ends : (q : Result Pumped LinkFault) (old : Phase) (b : Box (SessionState prints.Print) Global)
+    (x y : SessionState prints.Print) (last : Last) → old ≡ phases.Compact b → x ≡ b.value →
+    OnOk q (EndsBy x y last) → OnOk q (EndsPhase old (phases.Compact (with_value b y)) last)
+compact-ends (Ok p) old b x y last is same ends = λ over. elim (ends over) [
+  | inl before ↦ inl (subst (λ o. over_in o ≡ true) (sym is)
+      (subst (λ (z : SessionState prints.Print). z.over ≡ true) same before))
+  | inr end ↦ inr end.0
+]
+compact-ends (Err f) old b x y last is same ends = tt

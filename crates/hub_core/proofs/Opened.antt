@@ -4,22 +4,18 @@
 -- the hello's. Those that were written are taken, then all bytes that came are pushed. So what is known of the session
 -- speaks of all bytes that were read and all that were written, as `Knows` does.
 use Rattle.std.proofs.Common.{◌≡◌, ℕ, ◌+◌, ◌≤◌, true, false, List, [], ◌++◌, length, length-append, take, min}
-use Rattle.std.proofs.Common.{Result, Ok, Err, OnOk, append-nil, Box, Global, refl, ap, ◌∙◌, subst}
+use Rattle.std.proofs.Common.{Result, Ok, Err, OnOk, append-nil, refl, ap, ◌∙◌, subst}
 use Rattle.std.proofs.Common.{append_assoc, arith}
 use Rattle.std.specs.Prelude.{flat_map}
 use Rattle.std.proofs.lemmas.List.{take-append-le}
 use Rattle.std.proofs.Math.Seq.{take-length}
-use Rattle.definitions.specs.Fingerprints.{Summary, Lanes, two_lanes, counted_lanes}
-use Rattle.definitions.specs.Fingerprints as prints
+use Rattle.definitions.specs.Fingerprints.{Summary}
 use Rattle.definitions.specs.Replies.{Peer}
-use Rattle.definitions.specs.Wire.{Profile, message_text, two_lane_profile, counted_profile}
+use Rattle.definitions.specs.Wire.{Profile, message_text}
 use Rattle.definitions.specs.Engines.{Speaker, responding}
 use Rattle.definitions.specs.Ends.{is_live}
 use Rattle.ends_core.specs.Sides.{said_to}
 use Rattle.session_core.specs.Sessions.{SessionState, Knows, Pushes, Takes, all_made, frame_of, with_talk, with_outbox}
-use Rattle.hub_core.specs.Greetings.{GreetingState, is_counted, told}
-use Rattle.hub_core.specs.Peers.{Knowing}
-use Rattle.hub_core.specs.declared.phase.Phase.TheVariants as phases
 
 module _ {F : Type 0} (S : Summary F) (W : Profile F) where
   -- as many bytes of the hello as were written are taken
@@ -64,15 +60,3 @@ module _ {F : Type 0} (S : Summary F) (W : Profile F) where
       subst (λ (l : List ℕ). Knows S W s e pushed l) (append-nil taken)
       (made s pushed taken (before s pushed taken live k))
   made-then (Err x) c d e before made = tt
-
-pub known-counted : (P : Peer) (g : GreetingState) (b : Box (SessionState prints.Counted) Global) →
-    is_counted g.came ≡ true →
-    Knows counted_lanes counted_profile (responding counted_lanes P) b.value g.came
-    (take g.said counted_profile.hello) →
-    Knowing P (phases.Counted b) g.came (told g)
-known-counted P g b is k = rw is k
-
-pub known-plain : (P : Peer) (g : GreetingState) (b : Box (SessionState Lanes) Global) → is_counted g.came ≡ false →
-    Knows two_lanes two_lane_profile (responding two_lanes P) b.value g.came (take g.said two_lane_profile.hello) →
-    Knowing P (phases.Plain b) g.came (told g)
-known-plain P g b is k = rw is k

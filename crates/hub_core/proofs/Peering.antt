@@ -6,11 +6,11 @@ use Rattle.std.proofs.Common.{◌≡◌, ℕ, ◌+◌, false, List, [], ◌++◌
 use Rattle.std.proofs.Common.{refl, sym, ap, ◌∙◌, subst}
 use Rattle.std.specs.Box.{with_value}
 use Rattle.std.specs.declared.io.traits.Take.{Take}
-use Rattle.definitions.specs.Fingerprints.{Lanes, Summary, two_lanes, counted_lanes}
+use Rattle.definitions.specs.Fingerprints.{Lanes, Summary, two_lanes, counted_lanes, compact_prints}
 use Rattle.definitions.specs.Fingerprints as prints
 use Rattle.definitions.specs.Ranks.{rank_by}
 use Rattle.definitions.specs.Replies.{Peer}
-use Rattle.definitions.specs.Wire.{Profile, two_lane_profile, counted_profile}
+use Rattle.definitions.specs.Wire.{Profile, two_lane_profile, counted_profile, compact_profile}
 use Rattle.definitions.specs.Engines.{responding}
 use Rattle.session_core.specs.Sessions.{SessionState, Knows}
 use Rattle.session_core.specs.Links.{Moves, MovesSo}
@@ -35,6 +35,7 @@ peer_of r w phase version serial heard arrived long = record {
   heard = heard;
   arrived = arrived;
   long = long;
+  waits = 0;
 }
 
 goes-greeting : (g h : GreetingState) (unread left held holds : Option (List ℕ)) (read said lost : List ℕ) →
@@ -57,7 +58,7 @@ greeting-goes (Ok s) old g h unread left held holds is (read, said, m, reads, wr
 greeting-goes (Err f) old g h unread left held holds is (read, said, lost, m) =
     rw is (read, said, lost, goes-greeting g h unread left held holds read said lost m)
 
--- a session in its box, in either profile, of which a phase says what is known of a responder
+-- a session in its box, in one of the profiles, of which a phase says what is known of a responder
 module _ {F : Type 0} (S : Summary F) (W : Profile F) (at : Box (SessionState F) Global → Phase)
     (known : (c d : Box (SessionState F) Global) (read said : List ℕ) → ((P : Peer) (pushed taken : List ℕ) →
     Knows S W (responding S P) c.value pushed taken →
@@ -112,6 +113,13 @@ counted-bound n phase b x is same bound =
     rw is (subst (λ (y : SessionState prints.Counted). n ≡ rank_by y.talk.held.steps
     (length y.talk.held.end.peer.items) + 1) same bound)
 
+pub compact-bound : (n : ℕ) (phase : Phase) (b : Box (SessionState prints.Print) Global)
+    (x : SessionState prints.Print) → phase ≡ phases.Compact b → x ≡ b.value →
+    n ≡ rank_by x.talk.held.steps (length x.talk.held.end.peer.items) + 1 → n ≡ bound_in phase
+compact-bound n phase b x is same bound =
+    rw is (subst (λ (y : SessionState prints.Print). n ≡ rank_by y.talk.held.steps
+    (length y.talk.held.end.peer.items) + 1) same bound)
+
 -- ---- how many messages were written whole
 
 pub plain-writes : (n : ℕ) (phase : Phase) (b : Box (SessionState Lanes) Global) (x : SessionState Lanes) →
@@ -124,3 +132,9 @@ pub counted-writes : (n : ℕ) (phase : Phase) (b : Box (SessionState prints.Cou
     WritesOf counted_lanes counted_profile x n → Writes phase n
 counted-writes n phase b x is same writes =
     rw is (subst (λ (y : SessionState prints.Counted). WritesOf counted_lanes counted_profile y n) same writes)
+
+pub compact-writes : (n : ℕ) (phase : Phase) (b : Box (SessionState prints.Print) Global)
+    (x : SessionState prints.Print) → phase ≡ phases.Compact b → x ≡ b.value →
+    WritesOf compact_prints compact_profile x n → Writes phase n
+compact-writes n phase b x is same writes =
+    rw is (subst (λ (y : SessionState prints.Print). WritesOf compact_prints compact_profile y n) same writes)

@@ -9,17 +9,21 @@ use Rattle.std.specs.Prelude.{ℕ, ◌+◌, ◌&&◌, ◌||◌, not, nat_eq, nat
 use Rattle.std.specs.Prelude.{bytes_eq, if◌then◌else◌}
 use Rattle.std.specs.Int.{w32, from_be_bytes}
 use Rattle.definitions.specs.Wire.{two_lane_profile}
-use Rattle.hub_core.specs.Greetings.{is_counted}
+use Rattle.hub_core.specs.Greetings.{is_counted, is_compact}
 
 abbrev pub is_plain : List ℕ → Bool
 is_plain came = bytes_eq (take 4 came) two_lane_profile.hello
 
 abbrev pub is_strange : List ℕ → Bool
-is_strange came = nat_le 4 (length came) && not (is_counted came) && not (is_plain came)
+is_strange came =
+    nat_le 4 (length came) && not (is_counted came) && (not (is_compact came) && not (is_plain came))
 
--- the bodies of both profiles have a kind, two bounds in one byte each, and a fingerprint
+-- a kind, two bounds in one byte each, and a fingerprint
 abbrev pub front : List ℕ → List ℕ
-front came = if is_counted came then 0 ∷ 0 ∷ 0 ∷ 39 ∷ 1 ∷ 0 ∷ 0xFF ∷ [] else 0 ∷ 0 ∷ 0 ∷ 35 ∷ 1 ∷ 0 ∷ 0xFF ∷ []
+front came =
+    if is_counted came then 0 ∷ 0 ∷ 0 ∷ 39 ∷ 1 ∷ 0 ∷ 0xFF ∷ []
+    else if is_compact came then 0 ∷ 0 ∷ 0 ∷ 15 ∷ 1 ∷ 0 ∷ 0xFF ∷ []
+    else 0 ∷ 0 ∷ 0 ∷ 35 ∷ 1 ∷ 0 ∷ 0xFF ∷ []
 
 abbrev pub is_front : List ℕ → Bool
 is_front came = bytes_eq (take 7 (drop 4 came)) (front came)

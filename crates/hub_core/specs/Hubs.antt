@@ -1,6 +1,6 @@
 -- The peers of a hub.
 --     HubState                     peers, each at its key, and their limits
---     kept, silence                what is counted for a peer; how old its last byte is, as a number
+--     silence                      how old its last byte is, as a number
 --     silence_from origin p        the same of the peers of an origin, from 1 on, and 0 of others
 --     measured by p                one of the three
 --     held_by peers                what is counted for all peers
@@ -8,7 +8,7 @@
 --     is_late limits now p         whether its time is over
 use Rattle.std.specs.Prelude.{◌≡◌, ◌≢◌, ◌||◌, ℕ, ◌+◌, ◌-◌, ◌^◌, Bool, nat_lt, if◌then◌else◌}
 use Rattle.slab.specs.Slab.{Slab, get}
-use Rattle.hub_core.specs.Peers.{PeerState, is_from, kept_in}
+use Rattle.hub_core.specs.Peers.{PeerState, is_from, kept}
 use Rattle.hub_core.specs.Totals.{total}
 use Rattle.hub_core.specs.declared.best.Measure.{Measure}
 use Rattle.hub_core.specs.declared.best.Measure.TheVariants as measures
@@ -17,9 +17,6 @@ use Rattle.hub_core.specs.declared.limits.HubLimits.{HubLimits}
 pub record HubState (I O : Type 0) : Type 0 where
   pub peers : Slab (PeerState I O)
   pub limits : HubLimits
-
-abbrev pub kept : {I O : Type 0} → PeerState I O → ℕ
-kept p = kept_in p.phase
 
 abbrev pub held_by : {I O : Type 0} → Slab (PeerState I O) → ℕ
 held_by peers = total kept peers.slots

@@ -15,18 +15,18 @@
 --                                         just the first so many end within those that were written
 --     owes, state_in, goes_on, Learns     whether text is made and not written, how its session stands, whether it goes
 --                                         on, and what it has learned
---     PeerState, IsFresh, woken           a peer, one that has just come, one whose stream is ready again
+--     PeerState, IsFresh, kept, woken     a peer, one that has just come, one whose stream is ready again
 --     is_from origin p                    it comes from this origin
 use Rattle.std.specs.Prelude.{◌≡◌, ◌⊎◌, ℕ, ◌+◌, ◌-◌, ◌^◌, ◌&&◌, min, nat_eq, nat_lt, Bool, true, false, List, [], ◌++◌}
 use Rattle.std.specs.Prelude.{length, if◌then◌else◌, Option, Some, None, Result, Ok, Err}
 use Rattle.std.specs.Io.KnownBytes.{Consumes, Appends}
 use Rattle.std.specs.Io.Take.{take_inner, take_limit}
 use Rattle.std.specs.declared.io.traits.Take.{Take}
-use Rattle.definitions.specs.Fingerprints.{Summary, two_lanes, counted_lanes}
+use Rattle.definitions.specs.Fingerprints.{Summary, two_lanes, counted_lanes, compact_prints}
 use Rattle.definitions.specs.Ranks.{rank_by}
 use Rattle.definitions.specs.Replies.{Peer}
 use Rattle.definitions.specs.Talks.{Knowledge}
-use Rattle.definitions.specs.Wire.{Profile, two_lane_profile, counted_profile}
+use Rattle.definitions.specs.Wire.{Profile, two_lane_profile, counted_profile, compact_profile}
 use Rattle.definitions.specs.Engines.{responding}
 use Rattle.ends_core.specs.Sides.{said_to}
 use Rattle.session_core.specs.Kept.{kept_by}
@@ -41,7 +41,7 @@ use Rattle.session_core.specs.declared.fault.LinkFault.{LinkFault}
 use Rattle.session_core.specs.declared.polled.Last.{Last}
 use Rattle.session_core.specs.declared.polled.Last.TheVariants as lasts
 use Rattle.session_core.specs.declared.pumped.Pumped.{Pumped}
-use Rattle.hub_core.specs.Greetings.{is_counted, told}
+use Rattle.hub_core.specs.Greetings.{is_counted, is_compact, told}
 use Rattle.hub_core.specs.Steps.{LeavesGreeting}
 use Rattle.hub_core.specs.declared.phase.Phase.{Phase}
 use Rattle.hub_core.specs.declared.phase.Phase.TheVariants as phases
@@ -51,6 +51,8 @@ Knowing P (phases.Greeting g) pushed taken = (pushed ≡ g.came) × (taken ≡ t
 Knowing P (phases.Plain c) pushed taken = Knows two_lanes two_lane_profile (responding two_lanes P) c.value pushed taken
 Knowing P (phases.Counted c) pushed taken =
     Knows counted_lanes counted_profile (responding counted_lanes P) c.value pushed taken
+Knowing P (phases.Compact c) pushed taken =
+    Knows compact_prints compact_profile (responding compact_prints P) c.value pushed taken
 
 pub record Goes (old new : Phase) (unread left held holds : Option (List ℕ)) (read said lost : List ℕ) : Type 0 where
   pub consumed : Consumes unread left (read ++ lost)
@@ -72,20 +74,24 @@ abbrev pub LeavesOff : Phase → Last → Last → Result Pumped LinkFault → T
 LeavesOff (phases.Greeting g) r w result = LeavesGreeting g r w result
 LeavesOff (phases.Plain c) r w (Ok s) = StandsAt two_lane_profile s.pause c.value r w s.read s.written
 LeavesOff (phases.Counted c) r w (Ok s) = StandsAt counted_profile s.pause c.value r w s.read s.written
+LeavesOff (phases.Compact c) r w (Ok s) = StandsAt compact_profile s.pause c.value r w s.read s.written
 LeavesOff (phases.Plain c) r w (Err f) = Fails {X = Pumped} (Err f) r w
 LeavesOff (phases.Counted c) r w (Err f) = Fails {X = Pumped} (Err f) r w
+LeavesOff (phases.Compact c) r w (Err f) = Fails {X = Pumped} (Err f) r w
 
 -- ---- the profile
 
 abbrev pub IsChosen : Phase → List ℕ → Type 0
 IsChosen (phases.Greeting g) came = ⊥
-IsChosen (phases.Plain c) came = is_counted came ≡ false
+IsChosen (phases.Plain c) came = (is_counted came ≡ false) × (is_compact came ≡ false)
 IsChosen (phases.Counted c) came = is_counted came ≡ true
+IsChosen (phases.Compact c) came = is_compact came ≡ true
 
 abbrev pub over_in : Phase → Bool
 over_in (phases.Greeting g) = g.over
 over_in (phases.Plain c) = c.value.over
 over_in (phases.Counted c) = c.value.over
+over_in (phases.Compact c) = c.value.over
 
 abbrev pub EndsPhase : Phase → Phase → Last → Type 0
 EndsPhase old new last = over_in new ≡ true → (over_in old ≡ true) ⊎ (last ≡ lasts.Ended)
@@ -95,12 +101,14 @@ abbrev pub Opens : Peer → Phase → Phase → Type 0
 Opens P (phases.Greeting g) new = Knowing P new g.came (told g) × IsChosen new g.came × (over_in new ≡ g.over)
 Opens P (phases.Plain c) new = new ≡ phases.Plain c
 Opens P (phases.Counted c) new = new ≡ phases.Counted c
+Opens P (phases.Compact c) new = new ≡ phases.Compact c
 
 -- a session that is opened speaks of this version, and one that was open of the one it spoke of
 abbrev pub version_after : Phase → ℕ → ℕ → ℕ
 version_after (phases.Greeting g) was given = given
 version_after (phases.Plain c) was given = was
 version_after (phases.Counted c) was given = was
+version_after (phases.Compact c) was given = was
 
 -- ---- what a peer has
 
@@ -109,16 +117,19 @@ abbrev pub kept_in : Phase → ℕ
 kept_in (phases.Greeting g) = min (length g.came) (2 ^ 64 - 1)
 kept_in (phases.Plain c) = kept_by c.value
 kept_in (phases.Counted c) = kept_by c.value
+kept_in (phases.Compact c) = kept_by c.value
 
 abbrev pub sent_in : Phase → ℕ
 sent_in (phases.Greeting g) = 0
 sent_in (phases.Plain c) = c.value.talk.held.end.sent
 sent_in (phases.Counted c) = c.value.talk.held.end.sent
+sent_in (phases.Compact c) = c.value.talk.held.end.sent
 
 abbrev pub written_in : Phase → ℕ
 written_in (phases.Greeting g) = 0
 written_in (phases.Plain c) = c.value.talk.held.end.sent - unwritten c.value.talk.outbox
 written_in (phases.Counted c) = c.value.talk.held.end.sent - unwritten c.value.talk.outbox
+written_in (phases.Compact c) = c.value.talk.held.end.sent - unwritten c.value.talk.outbox
 
 abbrev pub WritesOf : {F : Type 0} → Summary F → Profile F → SessionState F → ℕ → Type 0
 WritesOf S W c n = (P : Peer) (pushed taken : List ℕ) → Knows S W (responding S P) c pushed taken →
@@ -128,35 +139,41 @@ abbrev pub Writes : Phase → ℕ → Type 0
 Writes (phases.Greeting g) n = n ≡ 0
 Writes (phases.Plain c) n = WritesOf two_lanes two_lane_profile c.value n
 Writes (phases.Counted c) n = WritesOf counted_lanes counted_profile c.value n
+Writes (phases.Compact c) n = WritesOf compact_prints compact_profile c.value n
 
 -- how many messages its session says at most
 abbrev pub bound_in : Phase → ℕ
 bound_in (phases.Greeting g) = 0
 bound_in (phases.Plain c) = rank_by c.value.talk.held.steps (length c.value.talk.held.end.peer.items) + 1
 bound_in (phases.Counted c) = rank_by c.value.talk.held.steps (length c.value.talk.held.end.peer.items) + 1
+bound_in (phases.Compact c) = rank_by c.value.talk.held.steps (length c.value.talk.held.end.peer.items) + 1
 
 -- text of its session is made and not written
 abbrev pub owes : Phase → Bool
 owes (phases.Greeting g) = false
 owes (phases.Plain c) = nat_lt 0 (length c.value.talk.outbox.ready)
 owes (phases.Counted c) = nat_lt 0 (length c.value.talk.outbox.ready)
+owes (phases.Compact c) = nat_lt 0 (length c.value.talk.outbox.ready)
 
 abbrev pub state_in : Phase → Option State
 state_in (phases.Greeting g) = None
 state_in (phases.Plain c) = Some c.value.talk.state
 state_in (phases.Counted c) = Some c.value.talk.state
+state_in (phases.Compact c) = Some c.value.talk.state
 
 -- its session is opened and goes on
 abbrev pub goes_on : Phase → Bool
 goes_on (phases.Greeting g) = false
 goes_on (phases.Plain c) = is_open c.value.talk.state
 goes_on (phases.Counted c) = is_open c.value.talk.state
+goes_on (phases.Compact c) = is_open c.value.talk.state
 
 -- its session has ended, and has learned this
 abbrev pub Learns : Phase → Knowledge → Type 0
 Learns (phases.Greeting g) k = ⊥
 Learns (phases.Plain c) k = (c.value.talk.state ≡ states.Ended) × (k ≡ c.value.talk.held.end.learned)
 Learns (phases.Counted c) k = (c.value.talk.state ≡ states.Ended) × (k ≡ c.value.talk.held.end.learned)
+Learns (phases.Compact c) k = (c.value.talk.state ≡ states.Ended) × (k ≡ c.value.talk.held.end.learned)
 
 pub record PeerState (I O : Type 0) : Type 0 where
   -- so many bytes are read of it at most
@@ -171,8 +188,14 @@ pub record PeerState (I O : Type 0) : Type 0 where
   pub arrived : ℕ
   -- how many bytes came since our last message
   pub long : ℕ
+  -- how many bytes its reader keeps
+  pub waits : ℕ
   -- where it comes from, if that is counted
   pub origin : Option ℕ
+
+-- what is counted for it
+abbrev pub kept : {I O : Type 0} → PeerState I O → ℕ
+kept p = min (kept_in p.phase + p.waits) (2 ^ 64 - 1)
 
 abbrev pub is_same : ℕ → Option ℕ → Bool
 is_same origin None = false
@@ -204,6 +227,7 @@ fresh reader writer serial now = record {
   heard = now;
   arrived = now;
   long = 0;
+  waits = 0;
   origin = None;
 }
 

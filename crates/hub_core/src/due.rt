@@ -5,7 +5,7 @@ ghost use Rattle.std.specs.Int.{w32, from_be_bytes};
 ghost use Rattle.hub_core.specs.Firsts as firsts;
 ghost use Rattle.hub_core.specs.Greetings as greetings;
 
-use digest_core::{Counted, Fingerprint, WireSummary};
+use digest_core::{Counted, Fingerprint, Print, WireSummary};
 
 /// The length of a hello.
 pub const HELLO: usize = 4;
@@ -27,12 +27,23 @@ const FRONT: [u8; 7] = [0, 0, 0, 35, 1, 0, 0xFF];
 /// The same in profile 2.
 const COUNTED_FRONT: [u8; 7] = [0, 0, 0, 39, 1, 0, 0xFF];
 
+/// The same in the compact profile.
+const COMPACT_FRONT: [u8; 7] = [0, 0, 0, 15, 1, 0, 0xFF];
+
 /// Whether these bytes begin with the hello of profile 2.
 pub(crate) fn is_counted(came: &[u8]) -> bool
     ensures { result ≡ greetings.is_counted came.now }
 {
     let front = &came[..came.len().min(HELLO)];
     front == Counted::hello().as_slice()
+}
+
+/// Whether these bytes begin with the hello of the compact profile.
+pub(crate) fn is_compact(came: &[u8]) -> bool
+    ensures { result ≡ greetings.is_compact came.now }
+{
+    let front = &came[..came.len().min(HELLO)];
+    front == Print::hello().as_slice()
 }
 
 /// Whether these bytes begin with the hello of profile 1.
@@ -47,7 +58,7 @@ fn is_plain(came: &[u8]) -> bool
 fn is_strange(came: &[u8]) -> bool
     ensures { result ≡ firsts.is_strange came.now }
 {
-    came.len() >= HELLO && !is_counted(came) && !is_plain(came)
+    came.len() >= HELLO && !is_counted(came) && !is_compact(came) && !is_plain(came)
 }
 
 /// The bytes from this place on.
@@ -83,6 +94,9 @@ fn is_front(came: &[u8]) -> bool
     let front = &came[HELLO..end];
     if is_counted(came) {
         return front == COUNTED_FRONT.as_slice();
+    }
+    if is_compact(came) {
+        return front == COMPACT_FRONT.as_slice();
     }
     front == FRONT.as_slice()
 }

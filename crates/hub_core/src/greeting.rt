@@ -8,8 +8,8 @@ ghost use Rattle.hub_core.specs.Greetings as greetings;
 ghost use Rattle.hub_core.specs.Greetings.{Greets, own_hello};
 ghost use Rattle.hub_core.specs.Steps.{EndsGreeting, GreetsSo, LeavesGreeting, RestsGreeting, is_ready};
 
-use crate::due::{HELLO, is_counted, is_due, rest_of};
-use digest_core::{Counted, Fingerprint, WireSummary};
+use crate::due::{HELLO, is_compact, is_counted, is_due, rest_of};
+use digest_core::{Counted, Fingerprint, Print, WireSummary};
 use session_core::{Last, LinkFault, Pause, Polled, Pumped, both, pause_of};
 use std::alloc::{AllocError, Global};
 use std::io::{Read, Write};
@@ -80,12 +80,22 @@ impl Greeting {
         is_counted(&self.came)
     }
 
+    /// Whether it speaks the compact profile.
+    pub fn is_compact(&self) -> bool
+        ensures { result ≡ greetings.is_compact self.now.came }
+    {
+        is_compact(&self.came)
+    }
+
     /// The hello that is written to it.
     pub fn hello(&self) -> [u8; 4]
         ensures { result ≡ own_hello self.now.came }
     {
         if is_counted(&self.came) {
             return Counted::hello();
+        }
+        if is_compact(&self.came) {
+            return Print::hello();
         }
         Fingerprint::hello()
     }

@@ -3,16 +3,17 @@
 ghost use Rattle.std.specs.Prelude.{◌≡◌, ◌<◌, ◌≤◌, ◌↔◌, ◌-◌, ◌^◌, ◌||◌, nat_lt, ℕ, true, false, [], Some, None};
 ghost use Rattle.std.specs.Prelude.{IfOk, IfErr, OnOk, OnErr, IfSome, IfNone, IsSome, length, option_copied};
 ghost use Rattle.std.specs.Arc.{arc_value};
-ghost use Rattle.std.specs.Io.Take.{take_remaining};
+ghost use Rattle.std.specs.Io.Take.{take_inner, take_remaining};
 ghost use Rattle.slab.specs.Slab.{get, slab_len};
 ghost use Rattle.ends_core.specs.Sides.{peer_of};
 ghost use Rattle.range_tree.specs.Trees.{tree_items};
 ghost use Rattle.hub_core.specs.Hubs as hubs;
-ghost use Rattle.hub_core.specs.Hubs.{OthersStay, held_by, kept, silence};
+ghost use Rattle.hub_core.specs.Hubs.{OthersStay, held_by, silence};
 ghost use Rattle.hub_core.specs.Totals.{IsMost, IsMostOf};
-ghost use Rattle.hub_core.specs.Peers.{CountsSo, EndsPhase, GoesSo, LeavesOff, Opens, is_from, version_after};
+ghost use Rattle.hub_core.specs.Peers.{CountsSo, EndsPhase, GoesSo, LeavesOff, Opens, is_from, kept, version_after};
 
 use crate::best::{Measure, better};
+use crate::keeping::Keeping;
 use crate::limits::HubLimits;
 use crate::peer::Peer;
 use range_tree::Tree;
@@ -52,7 +53,7 @@ fn is_late(limits: &HubLimits, now: u64, heard: u64, arrived: u64) -> bool
 }
 
 /// How old the last byte of a peer is, as a number.
-fn silence<I: Read, O: Write>(peer: &Peer<I, O>) -> u128
+fn silence<I: Read + Keeping, O: Write>(peer: &Peer<I, O>) -> u128
     ensures value { result ≡ hubs.silence peer.now }
     ensures small { result < 2 ^ 64 }
 {
@@ -60,7 +61,7 @@ fn silence<I: Read, O: Write>(peer: &Peer<I, O>) -> u128
 }
 
 /// The same of a peer of this origin, from 1 on, and 0 of any other.
-fn silence_from<I: Read, O: Write>(origin: u128, peer: &Peer<I, O>) -> u128
+fn silence_from<I: Read + Keeping, O: Write>(origin: u128, peer: &Peer<I, O>) -> u128
     ensures { result ≡ hubs.silence_from origin peer.now }
 {
     if peer.is_from(origin) {
@@ -70,7 +71,7 @@ fn silence_from<I: Read, O: Write>(origin: u128, peer: &Peer<I, O>) -> u128
 }
 
 /// The number of a peer by this measure.
-fn measured<I: Read, O: Write>(by: Measure, peer: &Peer<I, O>) -> u128
+fn measured<I: Read + Keeping, O: Write>(by: Measure, peer: &Peer<I, O>) -> u128
     ensures { result ≡ hubs.measured by peer.now }
 {
     match by {
@@ -80,7 +81,7 @@ fn measured<I: Read, O: Write>(by: Measure, peer: &Peer<I, O>) -> u128
     }
 }
 
-impl<I: Read, O: Write> Hub<I, O> {
+impl<I: Read + Keeping, O: Write> Hub<I, O> {
     /// No peer yet.
     pub fn new(alloc: Global, limits: HubLimits) -> Hub<I, O>
         ensures none { result.peers.slots ≡ [] }
@@ -171,6 +172,8 @@ impl<I: Read, O: Write> Hub<I, O> {
             get self.new.peers key ≡ Some q → OnOk did (EndsPhase p.phase q.phase q.reader.last)) }
         ensures counts { IfSome result (λ did. (p q : _) → get self.old.peers key ≡ Some p →
             get self.new.peers key ≡ Some q → CountsSo p q now did) }
+        ensures waits { IfSome result (λ did. (q : _) → get self.new.peers key ≡ Some q →
+            q.waits ≡ I.keeps (take_inner q.reader.way)) }
         ensures there { IsSome (get self.new.peers key) ↔ IsSome (get self.old.peers key) }
         ensures others { OthersStay self.old.peers self.new.peers key }
         ensures limits { self.new.limits ≡ self.old.limits }

@@ -99,6 +99,10 @@ pub(crate) fn opened(
         let session = begun(alloc, accepted, store, greeting)?;
         return Ok(Phase::Counted(Box::new(alloc, session)?));
     }
+    if greeting.is_compact() {
+        let session = begun(alloc, accepted, store, greeting)?;
+        return Ok(Phase::Compact(Box::new(alloc, session)?));
+    }
     let session = begun(alloc, accepted, store, greeting)?;
     Ok(Phase::Plain(Box::new(alloc, session)?))
 }

@@ -8,9 +8,10 @@ ghost use Rattle.ends_core.specs.Sides.{peer_of};
 ghost use Rattle.range_tree.specs.Trees.{tree_items};
 ghost use Rattle.hub_core.specs.Peers as peers;
 ghost use Rattle.hub_core.specs.Peers.{CountsSo, EndsPhase, GoesSo, IsFresh, LeavesOff, Learns, Opens, heard_by};
-ghost use Rattle.hub_core.specs.Peers.{kept_in, long_by, sent_in, state_in, version_after, woken};
+ghost use Rattle.hub_core.specs.Peers.{long_by, sent_in, state_in, version_after, woken};
 
 use crate::greeting::Greeting;
+use crate::keeping::Keeping;
 use crate::opening::opened;
 use crate::phase::Phase;
 use ends_core::Learned;
@@ -36,6 +37,8 @@ pub struct Peer<I, O> {
     heard: u64,
     arrived: u64,
     long: u64,
+    // What its reader keeps.
+    waits: u64,
     origin: Option<u128>,
 }
 
@@ -53,6 +56,7 @@ impl<I, O> Model for Peer<I, O> {
       heard = p.heard;
       arrived = p.arrived;
       long = p.long;
+      waits = p.waits;
       origin = p.origin;
     } };
 }
@@ -77,7 +81,7 @@ fn long_after(long: u64, step: Pumped, is_same: bool) -> u64
     long.saturating_add(step.read)
 }
 
-impl<I: Read, O: Write> Peer<I, O> {
+impl<I: Read + Keeping, O: Write> Peer<I, O> {
     /// A peer that has just come, of no origin, and of which at most so many bytes are read.
     pub fn new(
         alloc: Global,
@@ -98,6 +102,7 @@ impl<I: Read, O: Write> Peer<I, O> {
             heard: now,
             arrived: now,
             long: 0,
+            waits: 0,
             origin: None,
         }
     }
@@ -116,11 +121,12 @@ impl<I: Read, O: Write> Peer<I, O> {
         &self.phase
     }
 
-    /// How many bytes of memory are counted for it: those of a greeting, or what the session keeps.
+    /// How many bytes of memory are counted for it: those of a greeting, or what the session keeps; and what its reader
+    /// keeps.
     pub fn kept(&self) -> u64
-        ensures { result ≡ kept_in self.now.phase }
+        ensures { result ≡ peers.kept self.now }
     {
-        self.phase.kept()
+        self.phase.kept().saturating_add(self.waits)
     }
 
     /// How many messages were said to it.
@@ -234,8 +240,8 @@ impl<I: Read, O: Write> Peer<I, O> {
         self.writer.wake();
     }
 
-    /// Reads and writes what can be read and written: at most 16 reads and writes. Its stream may be ready again.
-    pub fn pump(&mut self, alloc: Global, room: &mut [u8], now: u64) -> Result<Pumped, LinkFault>
+    /// The same, before it is asked what the reader keeps.
+    fn pump_phase(&mut self, alloc: Global, room: &mut [u8], now: u64) -> Result<Pumped, LinkFault>
         requires room { 0 < length room.old }
         ensures moved { GoesSo self.old.phase self.new.phase (take_remaining I.remaining self.old.reader.way)
             (take_remaining I.remaining self.new.reader.way) (O.contents self.old.writer.way)
@@ -255,6 +261,25 @@ impl<I: Read, O: Write> Peer<I, O> {
         self.heard = heard_at(self.heard, step, now);
         self.long = long_after(self.long, step, self.phase.sent() == sent);
         Ok(step)
+    }
+
+    /// Reads and writes what can be read and written: at most 16 reads and writes. Its stream may be ready again.
+    pub fn pump(&mut self, alloc: Global, room: &mut [u8], now: u64) -> Result<Pumped, LinkFault>
+        requires room { 0 < length room.old }
+        ensures moved { GoesSo self.old.phase self.new.phase (take_remaining I.remaining self.old.reader.way)
+            (take_remaining I.remaining self.new.reader.way) (O.contents self.old.writer.way)
+            (O.contents self.new.writer.way) result }
+        ensures leaves { LeavesOff self.new.phase self.new.reader.last self.new.writer.last result }
+        ensures over { OnOk result (EndsPhase self.old.phase self.new.phase self.new.reader.last) }
+        ensures counts { CountsSo self.old self.new now result }
+        ensures waits { self.new.waits ≡ I.keeps (take_inner self.new.reader.way) }
+        ensures same { (self.new.version ≡ self.old.version) × (self.new.serial ≡ self.old.serial)
+            × (self.new.arrived ≡ self.old.arrived) × (self.new.origin ≡ self.old.origin) }
+        ensures room { length room.new ≡ length room.old }
+    {
+        let step = self.pump_phase(alloc, room, now);
+        self.waits = self.reader.way().get_ref().kept();
+        step
     }
 
     /// Opens its session over this version of the set. One that is open stays as it is.

@@ -1,4 +1,4 @@
-//! How far a peer is: it greets, or its session goes on in one of the two profiles.
+//! How far a peer is: it greets, or its session goes on in one of the profiles.
 
 ghost use Rattle.std.specs.Prelude.{◌≡◌, ◌≢◌, ◌<◌, length, Some, IfSome, IfNone, OnOk};
 ghost use Rattle.session_core.specs.declared.state.State.TheVariants as states;
@@ -7,7 +7,7 @@ ghost use Rattle.hub_core.specs.Peers.{EndsPhase, GoesSo, LeavesOff, Learns, Wri
 ghost use Rattle.hub_core.specs.Peers.{bound_in, goes_on, kept_in, sent_in, state_in, written_in};
 
 use crate::greeting::Greeting;
-use digest_core::{Counted, Fingerprint};
+use digest_core::{Counted, Fingerprint, Print};
 use ends_core::{Learned, Responding};
 use range_tree::Tree;
 use session_core::{LinkFault, Polled, Pumped, Session, State, pump};
@@ -23,6 +23,8 @@ pub enum Phase {
     Plain(Box<Session<Responding, Tree, Fingerprint>>),
     /// It speaks profile 2.
     Counted(Box<Session<Responding, Tree, Counted>>),
+    /// It speaks the compact profile.
+    Compact(Box<Session<Responding, Tree, Print>>),
 }
 
 impl Phase {
@@ -34,6 +36,7 @@ impl Phase {
             Phase::Greeting(greeting) => greeting.came().len() as u64,
             Phase::Plain(session) => session.kept(),
             Phase::Counted(session) => session.kept(),
+            Phase::Compact(session) => session.kept(),
         }
     }
 
@@ -45,6 +48,7 @@ impl Phase {
             Phase::Greeting(_) => 0,
             Phase::Plain(session) => session.sent(),
             Phase::Counted(session) => session.sent(),
+            Phase::Compact(session) => session.sent(),
         }
     }
 
@@ -58,6 +62,7 @@ impl Phase {
             Phase::Greeting(_) => 0,
             Phase::Plain(session) => session.written(),
             Phase::Counted(session) => session.written(),
+            Phase::Compact(session) => session.written(),
         }
     }
 
@@ -69,6 +74,7 @@ impl Phase {
             Phase::Greeting(_) => 0,
             Phase::Plain(session) => session.bound(),
             Phase::Counted(session) => session.bound(),
+            Phase::Compact(session) => session.bound(),
         }
     }
 
@@ -80,6 +86,7 @@ impl Phase {
             Phase::Greeting(_) => false,
             Phase::Plain(session) => !session.due().is_empty(),
             Phase::Counted(session) => !session.due().is_empty(),
+            Phase::Compact(session) => !session.due().is_empty(),
         }
     }
 
@@ -91,6 +98,7 @@ impl Phase {
             Phase::Greeting(_) => None,
             Phase::Plain(session) => Some(session.state()),
             Phase::Counted(session) => Some(session.state()),
+            Phase::Compact(session) => Some(session.state()),
         }
     }
 
@@ -110,6 +118,7 @@ impl Phase {
             Phase::Greeting(_) => None,
             Phase::Plain(session) => session.learned(),
             Phase::Counted(session) => session.learned(),
+            Phase::Compact(session) => session.learned(),
         }
     }
 
@@ -122,6 +131,7 @@ impl Phase {
             Phase::Greeting(_) => None,
             Phase::Plain(session) => Box::into_inner(session).into_learned(),
             Phase::Counted(session) => Box::into_inner(session).into_learned(),
+            Phase::Compact(session) => Box::into_inner(session).into_learned(),
         }
     }
 
@@ -144,6 +154,7 @@ impl Phase {
             Phase::Greeting(greeting) => greeting.pump(reader, writer, room),
             Phase::Plain(session) => pump(alloc, reader, writer, &mut **session, room),
             Phase::Counted(session) => pump(alloc, reader, writer, &mut **session, room),
+            Phase::Compact(session) => pump(alloc, reader, writer, &mut **session, room),
         }
     }
 }

@@ -4,3 +4,4 @@ pub mod Sharded
 pub mod Folders
 pub mod Forgetting
 pub mod Rewriting
+pub mod Metering

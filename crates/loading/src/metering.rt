@@ -1,9 +1,10 @@
 //! Counting what goes over a connection: bytes, and by their frames the messages and parts.
 
+ghost use Rattle.std.specs.Prelude.{◌≡◌, IfOk, OnErr, length};
 ghost use Rattle.std.specs.Io.{ReadsAtMost, WritesAtMost};
 ghost use Rattle.std.specs.Io.KnownBytes.{ReadConsumes, WriteAppends, Keeps};
+ghost use Rattle.loading.specs.Metering.{metered, bytes_after};
 
-use digest_core::{Counted, Fingerprint, WireSummary};
 use printing_core::Tally;
 use std::io;
 use std::io::{Read, Write};
@@ -39,7 +40,9 @@ const NEXT: Within = Within::Length { left: 4, length: 0 };
 
 impl Meter {
     /// Nothing was seen so far.
-    fn new() -> Meter {
+    fn new() -> Meter
+        ensures { (result.tally.messages ≡ 0) × (result.tally.parts ≡ 0) × (result.tally.bytes ≡ 0) }
+    {
         Meter {
             within: Within::Hello(4),
             hello: 0,
@@ -97,11 +100,14 @@ impl Meter {
     }
 
     /// Counts these bytes.
-    fn see(&mut self, bytes: &[u8]) {
-        self.tally.bytes = self.tally.bytes.saturating_add(bytes.len() as u64);
+    fn see(&mut self, bytes: &[u8])
+        ensures { self.new.tally.bytes ≡ bytes_after self.old.tally (length bytes.now) }
+    {
+        let count = self.tally.bytes.saturating_add(bytes.len() as u64);
         for byte in bytes {
             self.step(*byte);
         }
+        self.tally.bytes = count;
     }
 }
 
@@ -113,14 +119,18 @@ pub struct Metered<T> {
 }
 
 impl<T> Model for Metered<T> {
-    ghost Value = { T };
+    ghost use Rattle.loading.specs.Metering.{MeteredState};
 
-    ghost view = { λ m. m.inner };
+    ghost Value = { MeteredState T };
+
+    ghost view = { λ m. record { inner = m.inner; tally = m.meter.tally } };
 }
 
 impl<T> Metered<T> {
     /// Nothing went through so far.
-    pub fn new(inner: T) -> Metered<T> {
+    pub fn new(inner: T) -> Metered<T>
+        ensures { result ≡ metered inner }
+    {
         Metered {
             inner,
             meter: Meter::new(),
@@ -128,54 +138,57 @@ impl<T> Metered<T> {
     }
 
     /// What went through.
-    pub fn tally(&self) -> Tally {
+    pub fn tally(&self) -> Tally
+        ensures { result ≡ self.now.tally }
+    {
         self.meter.tally
     }
 
-    /// The wire profile, 1 or 2, of the hello that went through, if one did.
-    pub fn profile(&self) -> Option<u64> {
-        let hello = self.meter.hello.to_be_bytes();
-        if hello == Fingerprint::hello() {
-            Some(1)
-        } else if hello == Counted::hello() {
-            Some(2)
-        } else {
-            None
-        }
+    /// The reader or the writer itself.
+    pub fn inner(&self) -> &T
+        ensures { result.now ≡ self.now.inner }
+    {
+        &self.inner
+    }
+
+    /// The hello that went through; no hello at all, as long as fewer bytes did.
+    pub fn hello(&self) -> [u8; 4] {
+        self.meter.hello.to_be_bytes()
     }
 }
 
 impl<R: Read> Read for Metered<R> {
-    ghost remaining = { λ inner. R.remaining inner };
+    ghost remaining = { λ m. R.remaining m.inner };
 
     fn read(&mut self, buf: &mut [u8]) -> io::Result<usize>
         ensures bound { ReadsAtMost result buf.new }
-        ensures bytes { ReadConsumes (R.remaining self.old) (R.remaining self.new) result buf.new }
+        ensures bytes { ReadConsumes (R.remaining self.old.inner) (R.remaining self.new.inner) result buf.new }
+        ensures counted { IfOk result (λ n. self.new.tally.bytes ≡ bytes_after self.old.tally n) }
+        ensures failed { OnErr result (self.new.tally ≡ self.old.tally) }
     {
-        let result = self.inner.read(buf);
-        if let Ok(count) = &result {
-            self.meter.see(&buf[..*count]);
-        }
-        result
+        let count = self.inner.read(buf)?;
+        self.meter.see(&buf[..count]);
+        Ok(count)
     }
 }
 
 impl<W: Write> Write for Metered<W> {
-    ghost contents = { λ inner. W.contents inner };
+    ghost contents = { λ m. W.contents m.inner };
 
     fn write(&mut self, buf: &[u8]) -> io::Result<usize>
         ensures bound { WritesAtMost result buf.now }
-        ensures bytes { WriteAppends (W.contents self.old) (W.contents self.new) result buf.now }
+        ensures bytes { WriteAppends (W.contents self.old.inner) (W.contents self.new.inner) result buf.now }
+        ensures counted { IfOk result (λ n. self.new.tally.bytes ≡ bytes_after self.old.tally n) }
+        ensures failed { OnErr result (self.new.tally ≡ self.old.tally) }
     {
-        let result = self.inner.write(buf);
-        if let Ok(count) = &result {
-            self.meter.see(&buf[..*count]);
-        }
-        result
+        let count = self.inner.write(buf)?;
+        self.meter.see(&buf[..count]);
+        Ok(count)
     }
 
     fn flush(&mut self) -> io::Result<()>
-        ensures bytes { Keeps (W.contents self.old) (W.contents self.new) }
+        ensures bytes { Keeps (W.contents self.old.inner) (W.contents self.new.inner) }
+        ensures counted { self.new.tally ≡ self.old.tally }
     {
         self.inner.flush()
     }

@@ -1,7 +1,7 @@
 -- A seat takes in items one after the other.
 -- What a log has it has from then on (`has_more`), and a beginning of what a seat has seen is one of what it has seen
--- later (`starts_further`), so what was said of an item before stays true (`there_later`). Of the item itself it is true
--- after it was added or left out (`there_now`). So one item more is taken after the others (`took_next`).
+-- later (`starts_further`), so what was said of an item before stays true (`there_later`). Of the item itself it is
+-- true after it was added or left out (`there_now`). So one item more is taken after the others (`took_next`).
 use Rattle.std.proofs.Common.{◌≡◌, ◌⊎◌, ℕ, ◌+◌, ◌<◌, List, [], ◌∷◌, ◌++◌, Bool, true, false, inl, inr, refl, sym, ap}
 use Rattle.std.proofs.Common.{◌∙◌, subst, length, take, get_or, suc, arith, append_assoc, append-nil}
 use Rattle.std.proofs.Common.{Option, Some, Result, Ok, Err, ◌≤◌, if◌then◌else◌}

@@ -5,7 +5,8 @@ use Rattle.std.specs.Prelude.{is_some, count_by, ◌<◌}
 use Rattle.std.specs.Prelude.{cond}
 use Rattle.std.proofs.lemmas.List.Sums.{sum_by-cons}
 use Rattle.slab.specs.Slab.{Slab, get, slab_len}
-use Rattle.hub_core.specs.Hubs.{OthersStay, held_by, kept}
+use Rattle.hub_core.specs.Hubs.{OthersStay, held_by}
+use Rattle.hub_core.specs.Peers.{kept}
 use Rattle.hub_core.specs.Peers.{PeerState}
 use Rattle.hub_core.specs.Totals.{in_slot, total, IsMost}
 use Rattle.hub_core.proofs.Totals.{total-has, total-none, total-one}

@@ -3,8 +3,7 @@
 -- one of what is seen of it (`puts_by`); where the seat entered nothing, what all have entered stays (`nothing_by`). An
 -- item more is put in after the others (`puts_on`).
 use Rattle.std.proofs.Common.{◌≡◌, ℕ, List, [], ◌∷◌, ◌++◌, true, inl, inr, Ok, Err, Result, Option, Some, refl, sym}
-use Rattle.std.proofs.Common.{subst}
-use Rattle.std.proofs.Common.{ap, ◌∙◌, map, suc, ◌+◌, ◌<◌, length, take, get_or, arith}
+use Rattle.std.proofs.Common.{subst, ap, ◌∙◌, map, suc, ◌+◌, ◌<◌, length, take, get_or, arith}
 use Rattle.std.specs.Prelude.{slice_set, option_map, IfSome, false}
 use Rattle.std.specs.List.{slice_get}
 use Rattle.std.proofs.lemmas.Option.{slice_get-map, get_or_from_slice_get}

@@ -6,8 +6,8 @@ use Rattle.std.specs.Prelude.{Result, Ok, Err, OnOk}
 use Rattle.definitions.specs.Items.{Range}
 use Rattle.shard_core.specs.declared.selector.Which.{Which}
 
-pub over_chosen : (P : Which → Range → Type 0) (w v : Which) (X Y : Range) → ◌≡◌ {A = Option (Which × Range)} (Some (w, X)) (Some (v, Y)) →
-    P w X → P v Y
+pub over_chosen : (P : Which → Range → Type 0) (w v : Which) (X Y : Range) →
+    ◌≡◌ {A = Option (Which × Range)} (Some (w, X)) (Some (v, Y)) → P w X → P v Y
 over_chosen P w v X Y is p =
     let same : ◌≡◌ {A = Which × Range} (w, X) (v, Y) = cc in
     subst (λ (c : Which × Range). P c.0 c.1) same p

@@ -1,5 +1,6 @@
 -- What a call does to a list of values.
---     ChangesOne place xs ys P    there is a value at this place, and it becomes one that stands so to it; the others stay
+--     ChangesOne place xs ys P    there is a value at this place, and it becomes one that stands so to it; the others
+--                                 stay
 --     ChangesAt place xs ys P     the value at this place becomes one that stands so to it, and the others stay; where
 --                                 there is none all stay
 use Rattle.std.specs.Prelude.{◌≡◌, ◌⊎◌, ℕ, List, slice_set, Option, Some, None}

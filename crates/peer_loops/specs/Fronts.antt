@@ -1,7 +1,7 @@
 -- Of which set a peer has to speak, and what of one that does not.
 --     set_of front                          what the set is called, if peers have to say it
---     said_openly came                      what a peer says of which this much came before its hello, and that need not
---                                           say of which set it speaks: of which range, or else of all
+--     said_openly came                      what a peer says of which this much came before its hello, and that need
+--                                           not say of which set it speaks: of which range, or else of all
 --     said_by front came                    the same of any peer
 --     chosen_in said                        the shard or the directory, and the range, if it says so
 --     range_of chosen                       the range; that of all items, if it is not said
@@ -61,6 +61,7 @@ abbrev pub is_known : Phase → Bool
 is_known (phases.Greeting g) = (g.said == 4) || g.over
 is_known (phases.Plain c) = false
 is_known (phases.Counted c) = false
+is_known (phases.Compact c) = false
 
 abbrev pub refusal_in : ℕ → ℕ → Selecting → Option ℕ
 refusal_in first count NoSelector = Some 1

@@ -6,7 +6,8 @@
 --     IsElsewhere hs x             there is no part there, or the item is not of it
 --     PutsAt hs x r ks             of an item by one of the seats, if its part is kept here; the others stay
 --     PutsEach hs xs news ks       items, one after the other: each is entered or was there, and these were entered
---     PutsUntil hs xs news e ks    the same of all; where there is a fault, of those before the first that was not put in
+--     PutsUntil hs xs news e ks    the same of all; where there is a fault, of those before the first that was not put
+--                                  in
 --     PutsSome hs xs ks            the first few of them, and nothing else
 use Rattle.std.specs.Prelude.{◌≡◌, ◌⊎◌, ℕ, true, false, List, [], ◌∷◌, map, take, slice_set, Option, Some, None}
 use Rattle.std.specs.Prelude.{Result, Ok, Err, IfSome, ◌-◌, nat_lt, if◌then◌else◌}

@@ -10,13 +10,16 @@ use Rattle.session_table.specs.declared.outcome.Outcome.TheVariants as outcomes
 use Rattle.hub_core.specs.declared.phase.Phase.{Phase}
 use Rattle.hub_core.specs.declared.phase.Phase.TheVariants as phases
 use Rattle.watch_core.specs.Counting.{ending_of}
+use Rattle.watch_core.specs.declared.profile.SpokenProfile.{SpokenProfile}
+use Rattle.watch_core.specs.declared.profile.SpokenProfile.TheVariants as profiles
 use Rattle.watch_core.specs.declared.visit.Visit.{Visit}
 use Rattle.peer_loops.specs.declared.visiting.Leaver.{Leaver}
 
-abbrev pub profile_in : Phase → Option ℕ
+abbrev pub profile_in : Phase → Option SpokenProfile
 profile_in (phases.Greeting g) = None
-profile_in (phases.Plain c) = Some 1
-profile_in (phases.Counted c) = Some 2
+profile_in (phases.Plain c) = Some profiles.One
+profile_in (phases.Counted c) = Some profiles.Two
+profile_in (phases.Compact c) = Some profiles.Compact
 
 abbrev pub ours_in : Outcome → ℕ
 ours_in (outcomes.Ended learned sent version) = length learned.ours

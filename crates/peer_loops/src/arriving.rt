@@ -4,7 +4,7 @@ ghost use Rattle.std.specs.Prelude.{◌≡◌, true};
 ghost use Rattle.hub_core.specs.Peers.{IsFresh};
 ghost use Rattle.peer_loops.specs.Notes.{id_of};
 
-use crate::chosen::{Reader, reader_of};
+use crate::chosen::{Reader, Writer, reader_of};
 use crate::crowd::PeerLimits;
 use crate::desks::Desks;
 use crate::ending::Parting;
@@ -12,6 +12,7 @@ use crate::looping::{Kind, Loop, PAUSE};
 use crate::note::Guest;
 use crate::part_gate::PartGate;
 use crate::site::Site;
+use compact_core::Packing;
 use hub_core::Peer;
 use mio::unix::SourceFd;
 use mio::{Interest, Token};
@@ -85,10 +86,10 @@ fn peer_of(
     alloc: Global,
     limits: &PeerLimits,
     reader: Reader,
-    writer: Half,
+    writer: Writer,
     serial: u64,
     now: u64,
-) -> Peer<Reader, Half>
+) -> Peer<Reader, Writer>
     ensures { IsFresh reader writer limits.now.most_bytes serial now result }
 {
     Peer::new(
@@ -253,7 +254,8 @@ impl Loop {
         }
         let serial = self.serial;
         self.serial = serial.saturating_add(1);
-        let reader = reader_of(site.crowd.front, reader);
+        let reader = reader_of(site.alloc, site.crowd.front, reader);
+        let writer = Packing::new(site.alloc, writer);
         let limits = &site.crowd.limits;
         let peer = peer_of(site.alloc, limits, reader, writer, serial, self.now);
         let peer = peer.from_origin(origin);
@@ -290,7 +292,7 @@ impl Loop {
     ) {
         let no_memory = Parting::Failed(LinkFault::Memory);
         let key = self.hub.next_key();
-        let fd = guest.peer.reader().inner().as_raw_fd();
+        let fd = guest.peer.reader().reader().inner().as_raw_fd();
         if !self.register(key, fd, guest.id) {
             let _given = self.part_with(site, desks, guest, no_memory);
             return;

@@ -27,7 +27,7 @@ use std::time::Clock;
 use tcp_front::{
     Attended, ConnectFault, Stream, addresses_of, attend, call_unix, connect_any, finish, limited,
 };
-use watch_core::{Ending, Traffic, Turn, Visit};
+use watch_core::{Ending, SpokenProfile, Traffic, Turn, Visit};
 
 /// For how many seconds a partner is waited for that does not answer at all.
 const MOST_PATIENCE: u32 = 10;
@@ -168,7 +168,7 @@ impl<R: Wait + Clock, G> Caller<'_, '_, R, G> {
         let visit = Visit {
             address: over.address,
             is_called: true,
-            profile: Some(1),
+            profile: Some(SpokenProfile::One),
             serial: over.serial,
             which: part,
             range: Range::whole(),

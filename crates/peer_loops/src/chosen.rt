@@ -5,15 +5,22 @@ ghost use Rattle.std.specs.Io.Take.{take_inner};
 ghost use Rattle.peer_loops.specs.Fronts.{chosen_in, refusal_at, refusal_in, said_by, said_openly, set_of};
 
 use crate::desks::Desks;
+use compact_core::{Packing, Unpacking};
+use digest_core::Print;
 use hub_core::{Greeting, HELLO, Peer, Phase};
 use item_core::Range;
 use shard_core::{AfterSelector, Selecting, SetName, Which, says_part};
+use std::alloc::Global;
 use std::io::Write;
 use tcp_front::Half;
 use wire_core::encode_fault;
 
-/// What is read of a peer: its input, or what comes after the selector of it.
-pub(crate) type Reader = AfterSelector<Half>;
+/// What is read of a peer: its input, or what comes after the selector of it; in the compact profile the frames that it
+/// means.
+pub(crate) type Reader = Unpacking<AfterSelector<Half>, Print>;
+
+/// What is written to a peer: in the compact profile the compact text of frames.
+pub(crate) type Writer = Packing<Half, Print>;
 
 /// The number of the refusal of a peer that does not say of which set it speaks, where it has to.
 const BAD_HELLO: u8 = 1;
@@ -64,11 +71,12 @@ impl<'a> Front<'a> {
 
 /// What is read of a peer that has come: what comes after its selector. Where it does not have to say of which set it
 /// speaks, it may say of which range of its items.
-pub(crate) fn reader_of(front: Front<'_>, reader: Half) -> Reader {
-    match front.set() {
+pub(crate) fn reader_of(alloc: Global, front: Front<'_>, reader: Half) -> Reader {
+    let reader = match front.set() {
         Some(_) => AfterSelector::new(reader),
         None => AfterSelector::of_parts(reader),
-    }
+    };
+    Unpacking::new(alloc, reader)
 }
 
 /// Whether it is known of which set a peer speaks: its hello has come, and ours is written; or its input is over.
@@ -100,9 +108,9 @@ fn said_by(front: Front<'_>, came: &[u8]) -> Selecting
 
 /// The part of which a peer speaks, if it has said so.
 pub(crate) fn part_of(front: Front<'_>, reader: &Reader) -> Option<Chosen>
-    ensures { option_map (λ c. (c.which, c.range)) result ≡ chosen_in (said_by front.entry reader.now.came) }
+    ensures { option_map (λ c. (c.which, c.range)) result ≡ chosen_in (said_by front.entry reader.now.reader.came) }
 {
-    match said_by(front, reader.came()) {
+    match said_by(front, reader.reader().came()) {
         Selecting::Selected(which, range, _) => Some(Chosen { which, range }),
         _ => None,
     }
@@ -123,20 +131,20 @@ fn refusal_in(desks: &Desks, said: Selecting) -> Option<u8>
 
 /// The number of the refusal of a peer that speaks of another set, of none, or of a part that is not kept, once that is
 /// known.
-pub(crate) fn refusal_of(front: Front<'_>, desks: &Desks, peer: &Peer<Reader, Half>) -> Option<u8>
+pub(crate) fn refusal_of(front: Front<'_>, desks: &Desks, peer: &Peer<Reader, Writer>) -> Option<u8>
     ensures { result ≡ refusal_at front.entry desks.now.first (length desks.now.list.items) peer.now.phase
-        (take_inner peer.now.reader.way).came }
+        (take_inner peer.now.reader.way).reader.came }
 {
     match peer.phase() {
         Phase::Greeting(greeting) if is_known(greeting) => {
-            refusal_in(desks, said_by(front, peer.reader().came()))
+            refusal_in(desks, said_by(front, peer.reader().reader().came()))
         }
         _ => None,
     }
 }
 
 /// Writes what can be written at once of a fault frame, after what is not written of our hello.
-pub(crate) fn tell_refusal(phase: &Phase, writer: &mut Half, code: u8) {
+pub(crate) fn tell_refusal(phase: &Phase, writer: &mut Writer, code: u8) {
     if let Phase::Greeting(greeting) = phase {
         let hello = greeting.hello();
         let _told = writer.write(&hello[greeting.said()..]);

@@ -18,7 +18,7 @@ ghost use Rattle.peer_loops.specs.Extents.{meant};
 ghost use Rattle.peer_loops.specs.Hands.{Adds};
 ghost use Rattle.peer_loops.specs.Partings.{PutsInOf};
 
-use crate::chosen::Reader;
+use crate::chosen::{Reader, Writer};
 use crate::common::Common;
 use crate::extent::Extent;
 use crate::hand::HandFault;
@@ -33,7 +33,6 @@ use shard_core::{ShardSum, entry_of};
 use std::alloc::{AllocError, Global};
 use std::sync::{Arc, Wait};
 use store_core::RangeStore;
-use tcp_front::Half;
 use version_lock::{Pin, Seat};
 use version_log::{Added, LogFault};
 
@@ -116,8 +115,8 @@ impl Desk {
         Ok(left_out)
     }
 
-    /// Goes over to this seat at the part made anew, with the items of the range that the part of this one has, as far as
-    /// there is room. How many are left out. Where memory runs out, it stays at its part.
+    /// Goes over to this seat at the part made anew, with the items of the range that the part of this one has, as far
+    /// as there is room. How many are left out. Where memory runs out, it stays at its part.
     pub(crate) fn go_over<T: Wait>(
         &mut self,
         rt: &T,
@@ -162,7 +161,7 @@ impl Desk {
         &mut self,
         rt: &T,
         alloc: Global,
-        hub: &mut Hub<Reader, Half>,
+        hub: &mut Hub<Reader, Writer>,
         extent: Extent<'_>,
         key: usize,
     ) -> Result<(), AllocError>

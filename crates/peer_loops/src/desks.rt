@@ -13,7 +13,7 @@ ghost use Rattle.peer_loops.specs.Extents.{meant};
 ghost use Rattle.peer_loops.specs.Partings.{PutsInOf};
 ghost use Rattle.peer_loops.specs.ShardSpans.{keeps, place_for};
 
-use crate::chosen::{Reader, WRONG_SET};
+use crate::chosen::{Reader, WRONG_SET, Writer};
 use crate::common::Common;
 use crate::desk::Desk;
 use crate::ending::Parting;
@@ -29,7 +29,6 @@ use shard_core::Which;
 use std::alloc::{AllocError, Global};
 use std::sync::Wait;
 use store_core::RangeStore;
-use tcp_front::Half;
 use version_log::LogFault;
 
 /// A session: its place in the table, if it is there, the part that it was over, if that was said, and the range of the
@@ -144,7 +143,7 @@ impl Desks {
         &mut self,
         rt: &T,
         alloc: Global,
-        hub: &mut Hub<Reader, Half>,
+        hub: &mut Hub<Reader, Writer>,
         over: (Which, Extent<'_>),
         key: usize,
     ) -> Result<(), Parting>
@@ -177,8 +176,8 @@ impl Desks {
     ) -> bool
         ensures put { ChangesAt (place_for self.old.first over.now.part) self.old.list.items self.new.list.items
             (λ d e. (e.part ≡ d.part) × PutsInOf over.now.id
-            (says (G.lets_in common.now.gate.now) (G.floors common.now.gate.now)) (arc_value d.part).own outcome.now d.seat.view
-            e.seat.view) }
+            (says (G.lets_in common.now.gate.now) (G.floors common.now.gate.now)) (arc_value d.part).own outcome.now
+            d.seat.view e.seat.view) }
         ensures news { result ≡ false →
             map (λ d. d.seat.view.entered) self.new.list.items ≡ map (λ d. d.seat.view.entered) self.old.list.items }
     {

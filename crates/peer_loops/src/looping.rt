@@ -3,7 +3,7 @@
 ghost use Rattle.std.specs.Prelude.{◌≡◌, ◌*◌, ◌-◌, ◌/◌, ◌^◌, max, min};
 
 use crate::arriving::Accepting;
-use crate::chosen::Reader;
+use crate::chosen::{Reader, Writer};
 use crate::crowd::PeerLimits;
 use crate::desks::Desks;
 use crate::ending::Parting;
@@ -20,7 +20,6 @@ use std::io;
 use std::os::fd::{AsRawFd, RawFd};
 use std::sync::Wait;
 use std::time::{Clock, Duration};
-use tcp_front::Half;
 
 /// The token of the listener, and that of the waker.
 pub(crate) const LISTENER: Token = Token(usize::MAX);
@@ -57,7 +56,7 @@ pub(crate) struct Loop {
     pub(crate) kind: Kind,
     /// Its number among all loops.
     pub(crate) index: usize,
-    pub(crate) hub: Hub<Reader, Half>,
+    pub(crate) hub: Hub<Reader, Writer>,
     pub(crate) notes: Notes,
     /// Those with whom it goes on without waiting.
     pub(crate) soon: Vec<usize>,

@@ -3,11 +3,10 @@
 ghost use Rattle.std.specs.Prelude.{◌≡◌, ◌≢◌, ℕ, Some, IsSome, OnOk, slice_get};
 ghost use Rattle.peer_loops.specs.Notes.{id_of, OthersKeep};
 
-use crate::chosen::Reader;
+use crate::chosen::{Reader, Writer};
 use hub_core::Peer;
 use session_table::SessionId;
 use std::alloc::{AllocError, Global};
-use tcp_front::Half;
 
 /// What a loop notes of a peer.
 #[derive(Clone, Copy, Debug, PartialEq, Eq)]
@@ -21,7 +20,7 @@ pub(crate) struct Note {
 /// A peer on its way to another loop.
 #[derive(Drop)]
 pub(crate) struct Guest {
-    pub(crate) peer: Peer<Reader, Half>,
+    pub(crate) peer: Peer<Reader, Writer>,
     pub(crate) id: Option<SessionId>,
 }
 

@@ -18,7 +18,7 @@ ghost use Rattle.range_tree.specs.Trees.{tree_items};
 ghost use Rattle.hub_core.specs.Hubs.{OthersStay};
 ghost use Rattle.hub_core.specs.Peers.{Opens, version_after};
 
-use crate::chosen::{Chosen, Reader, TRUNCATED, WRONG_SET, part_of};
+use crate::chosen::{Chosen, Reader, TRUNCATED, WRONG_SET, Writer, part_of};
 use crate::desks::Desks;
 use crate::ending::Parting;
 use crate::extent::Extent;
@@ -33,13 +33,12 @@ use std::alloc::{AllocError, Global};
 use std::sync::{Arc, Wait};
 use store_core::RangeStore;
 use strategy_check::Accepted;
-use tcp_front::Half;
 
 /// Opens the session of this peer over the directory, if it is there. There are no more parts than the strategy allows
 /// items; it is tested here once more.
 fn open_over(
     alloc: Global,
-    hub: &mut Hub<Reader, Half>,
+    hub: &mut Hub<Reader, Writer>,
     key: usize,
     accepted: &Arc<Accepted>,
     store: Tree,
@@ -84,7 +83,7 @@ impl Loop {
     /// The part of which this peer speaks, if it is there and has said so.
     fn meant<R, G>(&self, site: &Site<'_, R, G>, key: usize) -> Option<Chosen>
         ensures { (p : _) → get self.entry.now.hub.peers key ≡ Some p → option_map (λ c. (c.which, c.range)) result
-            ≡ chosen_in (said_by site.now.crowd.now.front (take_inner p.reader.way).came) }
+            ≡ chosen_in (said_by site.now.crowd.now.front (take_inner p.reader.way).reader.came) }
     {
         part_of(site.crowd.front, self.hub.get(key)?.reader())
     }
@@ -115,7 +114,8 @@ impl Loop {
     ) -> Result<(), Parting>
         ensures shard { OnOk result ((p q : _) → get self.old.hub.peers key ≡ Some p →
             get self.new.hub.peers key ≡ Some q → (number : ℕ) → (range : items.Range) →
-            chosen_in (said_by site.now.crowd.now.front (take_inner p.reader.way).came) ≡ Some (Shard number, range) →
+            chosen_in (said_by site.now.crowd.now.front (take_inner p.reader.way).reader.came)
+            ≡ Some (Shard number, range) →
             (place : ℕ) × (place_for desks.old.first (Some (Shard number)) ≡ Some place)
             × ((floor : Floor) × G.floors site.now.common.now.gate.now floor
             × ChangesOne place desks.old.list.items desks.new.list.items (λ d e. (e.part ≡ d.part)

@@ -13,7 +13,7 @@ ghost use Rattle.peer_loops.specs.Partings as partings;
 ghost use Rattle.peer_loops.specs.Partings.{PutsInOf, Tells, shown_in};
 ghost use Rattle.peer_loops.specs.ShardSpans.{place_for};
 
-use crate::chosen::{Chosen, Front, Reader, part_of, tell_refusal};
+use crate::chosen::{Chosen, Front, Reader, Writer, part_of, tell_refusal};
 use crate::crowd::GivenBack;
 use crate::desks::{Desks, Over};
 use crate::ending::{Parting, outcome_of};
@@ -94,8 +94,8 @@ fn conclude<R: Wait, G: PartGate>(
 
 /// The part of which a peer speaks, if it has said so, and the range of its items.
 fn meant_by(front: Front<'_>, reader: &Reader) -> (Option<Which>, Range)
-    ensures which { result.0 ≡ option_map (λ c. c.0) (chosen_in (said_by front.entry reader.now.came)) }
-    ensures range { result.1 ≡ range_of (chosen_in (said_by front.entry reader.now.came)) }
+    ensures which { result.0 ≡ option_map (λ c. c.0) (chosen_in (said_by front.entry reader.now.reader.came)) }
+    ensures range { result.1 ≡ range_of (chosen_in (said_by front.entry reader.now.reader.came)) }
 {
     match part_of(front, reader) {
         Some(Chosen { which, range }) => (Some(which), range),
@@ -151,14 +151,14 @@ struct Gone {
 }
 
 /// Takes a peer apart that is let go now, whose session was this, and tells it why, if it is to be told.
-fn parted(peer: Peer<Reader, Half>, over: &Over, parting: Parting, now: u64) -> Gone
+fn parted(peer: Peer<Reader, Writer>, over: &Over, parting: Parting, now: u64) -> Gone
     ensures { Tells parting peer.phase peer.version result.outcome }
 {
     let left = peer.left();
     let version = peer.version();
     let arrived = peer.arrived();
     let (phase, reader, mut writer) = peer.into_parts();
-    let reader = reader.into_inner();
+    let reader = reader.into_reader().into_inner();
     if let Some(code) = told_number(&phase, parting) {
         tell_refusal(&phase, &mut writer, code);
     }
@@ -176,7 +176,7 @@ fn parted(peer: Peer<Reader, Half>, over: &Over, parting: Parting, now: u64) -> 
         outcome,
         leaver,
         reader,
-        writer,
+        writer: writer.into_writer(),
         left,
     }
 }
@@ -239,7 +239,7 @@ impl Loop {
         &mut self,
         site: &Site<'_, R, G>,
         desks: &mut Desks,
-        peer: Peer<Reader, Half>,
+        peer: Peer<Reader, Writer>,
         over: Over,
         parting: Parting,
     ) -> Option<GivenBack>
@@ -247,8 +247,8 @@ impl Loop {
         ensures put { (o : outcomes.Outcome) × Tells parting peer.phase peer.version o
             × ChangesAt (place_for desks.old.first over.part) desks.old.list.items desks.new.list.items
             (λ d e. (e.part ≡ d.part) × PutsInOf over.id
-            (says (G.lets_in site.now.common.now.gate.now) (G.floors site.now.common.now.gate.now)) (arc_value d.part).own o
-            d.seat.view e.seat.view) }
+            (says (G.lets_in site.now.common.now.gate.now) (G.floors site.now.common.now.gate.now))
+            (arc_value d.part).own o d.seat.view e.seat.view) }
         ensures hub { self.new.hub ≡ self.old.hub }
     {
         site.crowd.count_one_less(site.rt, peer.origin());

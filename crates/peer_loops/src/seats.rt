@@ -1,8 +1,8 @@
 //! The parts of a set that threads share, and seats at all of them.
 //!
-//! A part of which much is forgotten is made anew: a lock of its own, with the items that are kept. Whoever has a seat at
-//! the old one goes over with the items that came into that one since. The number of changes rises before the versions
-//! are pinned that the new parts begin with, so whoever has put something in later finds it changed.
+//! A part of which much is forgotten is made anew: a lock of its own, with the items that are kept. Whoever has a seat
+//! at the old one goes over with the items that came into that one since. The number of changes rises before the
+//! versions are pinned that the new parts begin with, so whoever has put something in later finds it changed.
 
 use crate::desk::Desk;
 use crate::desks::Desks;
@@ -50,8 +50,8 @@ impl Seats {
         Some(Hand::with(self, desks))
     }
 
-    /// A seat at each part that was made anew after that of these desks, in the order of the parts. None where memory runs
-    /// out, or no writer number is left.
+    /// A seat at each part that was made anew after that of these desks, in the order of the parts. None where memory
+    /// runs out, or no writer number is left.
     pub(crate) fn newer<T: Wait>(
         &self,
         rt: &T,

@@ -6,7 +6,7 @@ ghost use Rattle.session_table.specs.Tables.{Opened};
 ghost use Rattle.hub_core.specs.Hubs.{held_by};
 ghost use Rattle.hub_core.specs.Peers.{bound_in, sent_in};
 
-use crate::chosen::{Reader, refusal_of};
+use crate::chosen::{Reader, Writer, refusal_of};
 use crate::desks::Desks;
 use crate::ending::Parting;
 use crate::looping::{Kind, Loop};
@@ -18,7 +18,6 @@ use session_core::{LinkFault, Pause, Pumped};
 use session_table::{SessionId, SessionTable};
 use std::os::fd::AsRawFd;
 use std::sync::Wait;
-use tcp_front::Half;
 
 /// What a peer waits for that is listed.
 #[derive(Clone, Copy, Debug, PartialEq, Eq)]
@@ -30,7 +29,7 @@ pub(crate) enum Until {
 }
 
 /// Opens the session of this peer in the table, if its first message was answered.
-fn open_in(sessions: &mut SessionTable, peer: &Peer<Reader, Half>) -> Option<SessionId>
+fn open_in(sessions: &mut SessionTable, peer: &Peer<Reader, Writer>) -> Option<SessionId>
     ensures opened { IfSome result (λ id. (0 < sent_in peer.now.phase)
         × Opened sessions.old sessions.new id (bound_in peer.now.phase)) }
     ensures none { IfNone result ((sessions.new ≡ sessions.old)
@@ -61,6 +60,27 @@ impl Loop {
         self.keep_within(site, desks);
     }
 
+    /// Whether the first message of this peer was answered, and its session is not in the table: it was opened before
+    /// that message was whole.
+    fn is_unentered(&self, key: usize) -> bool {
+        let Some(peer) = self.hub.get(key) else {
+            return false;
+        };
+        peer.sent() > 0 && self.notes.id(key).is_none()
+    }
+
+    /// Enters such a session now, if the table has a place for it. Whether none is left out.
+    fn enter_late<R: Wait, G>(&mut self, site: &Site<'_, R, G>, key: usize) -> bool {
+        if !self.is_unentered(key) {
+            return true;
+        }
+        let has_place = site.crowd.take_place();
+        if has_place {
+            self.enter(site, key);
+        }
+        has_place
+    }
+
     /// Goes on with this peer after a step of it, or lets it go where that failed.
     fn act<R: Wait, G: PartGate>(
         &mut self,
@@ -69,8 +89,10 @@ impl Loop {
         key: usize,
         did: Option<Result<Pumped, LinkFault>>,
     ) {
+        let is_entered = self.enter_late(site, key);
         match did {
-            Some(Ok(step)) => self.follow(site, desks, key, step.pause),
+            Some(Ok(step)) if is_entered => self.follow(site, desks, key, step.pause),
+            Some(Ok(_step)) => self.list(site, desks, key, Until::Place),
             Some(Err(fault)) => self.let_go(site, desks, key, Parting::Failed(fault)),
             None => {}
         }
@@ -170,7 +192,7 @@ impl Loop {
         let Some(guest) = self.take_out(key) else {
             return;
         };
-        let fd = guest.peer.reader().inner().as_raw_fd();
+        let fd = guest.peer.reader().reader().inner().as_raw_fd();
         let _gone = self.poll.registry().deregister(&mut SourceFd(&fd));
         if let Err(guest) = site.crowd.hand_over(site.rt, index, guest) {
             let _given = self.part_with(site, desks, guest, Parting::Failed(LinkFault::Memory));

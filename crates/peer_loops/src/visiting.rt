@@ -10,7 +10,7 @@ use peer_threads::Outcome;
 use shard_core::Which;
 use std::net::SocketAddr;
 use tcp_front::Half;
-use watch_core::{Ending, Traffic, Visit};
+use watch_core::{Ending, SpokenProfile, Traffic, Visit};
 
 /// What a loop knows of a peer that it lets go, beside how its session ended.
 #[derive(Clone, Copy)]
@@ -18,7 +18,7 @@ pub(crate) struct Leaver {
     /// Its address, if it is known.
     pub(crate) address: Option<SocketAddr>,
     /// The wire profile that it spoke, if its session was opened.
-    pub(crate) profile: Option<u64>,
+    pub(crate) profile: Option<SpokenProfile>,
     /// The serial of its session, if that is in the table.
     pub(crate) serial: Option<u64>,
     /// The shard, or the directory, of which it spoke, and the range of items.
@@ -30,13 +30,14 @@ pub(crate) struct Leaver {
 }
 
 /// The wire profile of a session that was opened.
-pub(crate) fn profile_of(phase: &Phase) -> Option<u64>
+pub(crate) fn profile_of(phase: &Phase) -> Option<SpokenProfile>
     ensures { result ≡ profile_in phase.now }
 {
     match phase {
         Phase::Greeting(_) => None,
-        Phase::Plain(_) => Some(1),
-        Phase::Counted(_) => Some(2),
+        Phase::Plain(_) => Some(SpokenProfile::One),
+        Phase::Counted(_) => Some(SpokenProfile::Two),
+        Phase::Compact(_) => Some(SpokenProfile::Compact),
     }
 }
 

@@ -10,7 +10,7 @@ use Rattle.std.specs.Io.KnownBytes.{Appends}
 use Rattle.definitions.specs.Accounts.{Seen}
 use Rattle.definitions.specs.Refusals.{table_full, serials_spent}
 use Rattle.definitions.specs.Fingerprints.{Summary}
-use Rattle.definitions.specs.Histories.{History, content}
+use Rattle.definitions.specs.Histories.{content}
 use Rattle.definitions.specs.Items.{Item, IsBytes}
 use Rattle.definitions.specs.Messages.{Message}
 use Rattle.definitions.specs.Replies.{opening}

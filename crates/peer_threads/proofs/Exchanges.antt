@@ -22,9 +22,9 @@ use Rattle.definitions.specs.Wire.{Profile, message_text, session_text, Event, C
 use Rattle.definitions.specs.Streams.{Standing, Before_hello, In_message, Meaning_over, Faulted, feed, messages_of}
 use Rattle.definitions.specs.Ends as answered
 use Rattle.definitions.specs.Ends.{End, Answer, Replies, Ends, is_live, is_over, is_sendable}
-use Rattle.definitions.specs.Engines.{Speaker, says, session, own, answers, replied, messages_in, fault_of}
+use Rattle.definitions.specs.Engines.{Speaker, says, session, own, replied, messages_in, fault_of}
 use Rattle.definitions.specs.Taking.{Taken, ended, nothing_taken, after_ended}
-use Rattle.definitions.specs.Hearing.{Hearing, Goes_on, Over_at, Peer_refused, Refused_for, stands_at}
+use Rattle.definitions.specs.Hearing.{Goes_on, Over_at, Peer_refused, Refused_for, stands_at}
 use Rattle.definitions.specs.Hearing.{ended_by, hear_now, hear, begins, hears, stop_at, with_end}
 use Rattle.definitions.specs.Hearing.{hearing_to}
 use Rattle.definitions.specs.Accounts.{Seen}

@@ -8,6 +8,7 @@ pub mod Hearings
 pub mod Breaks
 pub mod Exchanges
 pub mod Endings
+pub mod FirstMessages
 pub mod Serving
 pub mod Dialing
 pub mod Choosing

@@ -15,7 +15,7 @@
 --     Speaks fits s version bound limit t r w o  all of it, of the bytes that were read, bounded where it fits
 --     Unopened t r w o         what an outcome says where no history was looked at
 --     CameFirst unread left    what was read begins with a message that may stand first
-use Rattle.std.specs.Prelude.{◌≡◌, ℕ, ◌≤◌, ◌<◌, ◌⊎◌, Bool, List, [], ◌∷◌, ◌++◌, Option, Some, None, length, ⊤}
+use Rattle.std.specs.Prelude.{◌≡◌, ℕ, ◌≤◌, ◌<◌, ◌⊎◌, Bool, List, ◌∷◌, ◌++◌, Option, Some, length, ⊤}
 use Rattle.std.specs.Io.KnownBytes.{Appends, Consumes}
 use Rattle.definitions.specs.Fingerprints.{Summary}
 use Rattle.definitions.specs.Messages.{Message}

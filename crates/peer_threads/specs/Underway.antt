@@ -32,8 +32,7 @@ use Rattle.definitions.specs.Wire.{Profile, message_text, session_text, Event, C
 use Rattle.definitions.specs.Streams.{messages_of}
 use Rattle.definitions.specs.Replies.{Peer}
 use Rattle.definitions.specs.Ends.{End, responder, is_over, is_sendable}
-use Rattle.definitions.specs.Engines.{Speaker, says, fault_frame, replied, text}
-use Rattle.definitions.specs.Taking.{ended}
+use Rattle.definitions.specs.Engines.{Speaker, says, fault_frame, text}
 use Rattle.definitions.specs.Hearing.{Hearing, Goes_on, Over_at, Peer_refused, Refused_for, hear_now, hear, hears}
 use Rattle.definitions.specs.Hearing.{hearing_to}
 use Rattle.definitions.specs.Accounts.{Seen, BrokeOff}

@@ -16,8 +16,10 @@ pub struct Connection<R, W> {
 impl<R, W> Connection<R, W> {
     /// Nothing was read or written so far.
     pub fn new(reader: R, writer: W) -> Connection<R, W>
-        ensures reader { result.reader ≡ record { inner = reader; failed = false; ended = false; reads = 0; fault = None } }
-        ensures writer { result.writer ≡ record { inner = writer; failed = false; ended = false; reads = 0; fault = None } }
+        ensures reader { result.reader
+            ≡ record { inner = reader; failed = false; ended = false; reads = 0; fault = None } }
+        ensures writer { result.writer
+            ≡ record { inner = writer; failed = false; ended = false; reads = 0; fault = None } }
     {
         Connection {
             reader: Watched::new(reader),

@@ -40,7 +40,7 @@ use crate::sender::Sender;
 use crate::shared::Shared;
 use crate::stop::Stop;
 use crate::talk::{end, exchange_laws, say, take, talk};
-use digest_core::{Counted, Fingerprint, WireSummary};
+use digest_core::{Counted, Fingerprint, Print, WireSummary};
 use ends_core::{Role, SessionEnd};
 use io_core::Watched;
 use place_core::Place;
@@ -393,8 +393,8 @@ fn serve_after<T: Wait, S: RangeStore, G: Gate, R: Read, W: Write, F: WireSummar
 }
 
 /// Answers the peer on this connection, which speaks first, until the session ends, in the profile whose hello the peer
-/// says: that of the counted fingerprint, or else that of two lanes. The seat is used for one `pin`, once the peer's
-/// first message has come whole: in both of these profiles one Sum over everything, and its end.
+/// says: that of the counted fingerprint, the compact one, or else that of two lanes. The seat is used for one `pin`,
+/// once the peer's first message has come whole: one Sum over everything, and its end, or in the compact profile a cut.
 pub fn serve_one<T: Wait, S: RangeStore, G: Gate, R: Read, W: Write>(
     rt: &T,
     alloc: Global,
@@ -441,8 +441,12 @@ pub fn serve_one<T: Wait, S: RangeStore, G: Gate, R: Read, W: Write>(
         Ok(hello) => hello,
         Err(stop) => return stopped(Sender::<Fingerprint>::new(), &mut connection.writer, stop),
     };
-    if hello.bytes == Counted::hello() {
+    let is_counted = hello.bytes == Counted::hello();
+    let is_compact = hello.bytes == Print::hello();
+    if is_counted {
         serve_after::<T, S, G, R, W, Counted>(rt, alloc, shared, seat, hello, connection)
+    } else if is_compact {
+        serve_after::<T, S, G, R, W, Print>(rt, alloc, shared, seat, hello, connection)
     } else {
         serve_after::<T, S, G, R, W, Fingerprint>(rt, alloc, shared, seat, hello, connection)
     }

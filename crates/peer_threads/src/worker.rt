@@ -257,8 +257,8 @@ fn count_of_first(items: &PackedItems, count: usize) -> usize
     count.min(items.len())
 }
 
-// Adds the first so many of the items to the log, in order. One that is not in the scope, or for which there is no room,
-// is dropped. Where memory runs out it stops, and all that are left of them are dropped. How many were dropped.
+// Adds the first so many of the items to the log, in order. One that is not in the scope, or for which there is no
+// room, is dropped. Where memory runs out it stops, and all that are left of them are dropped. How many were dropped.
 fn add_first<T: Wait, S: RangeStore, G: Gate>(
     rt: &T,
     alloc: Global,
@@ -274,7 +274,8 @@ fn add_first<T: Wait, S: RangeStore, G: Gate>(
     ensures seat { seat.new.table_id ≡ seat.old.table_id }
     ensures kept { (seat.new.view.writer ≡ seat.old.view.writer) × (seat.new.view.cap ≡ seat.old.view.cap) }
     ensures dropped { result ≤ first }
-    ensures put { PutInAll (may_stand scope.now.own scope.now.floor) (take first items.now) seat.old.view seat.new.view result }
+    ensures put { PutInAll (may_stand scope.now.own scope.now.floor) (take first items.now) seat.old.view
+        seat.new.view result }
 {
     let mut dropped = 0;
     for place in 0..first {
@@ -314,7 +315,8 @@ fn add_own<T: Wait, S: RangeStore, G: Gate>(
     ensures seat { seat.new.table_id ≡ seat.old.table_id }
     ensures kept { (seat.new.view.writer ≡ seat.old.view.writer) × (seat.new.view.cap ≡ seat.old.view.cap) }
     ensures few { IfOk result (λ count. count ≤ 1) }
-    ensures put { IfOk result (PutInOrDropped (may_stand scope.now.own scope.now.floor) item.now seat.old.view seat.new.view) }
+    ensures put { IfOk result
+        (PutInOrDropped (may_stand scope.now.own scope.now.floor) item.now seat.old.view seat.new.view) }
     ensures memory { OnErr result (DidNotInsert item.now seat.old.view Memory seat.new.view) }
 {
     if !is_own(scope.own, item) {

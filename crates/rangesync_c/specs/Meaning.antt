@@ -37,8 +37,8 @@ use Rattle.rangesync_c.specs.declared.fault.EmbeddedFault.{EmbeddedFault}
 use Rattle.rangesync_c.specs.declared.any_session.AnySession.{AnySession}
 use Rattle.ends_core.specs.declared.side.Side.{Side}
 use Rattle.ends_core.specs.declared.side.Side.TheVariants as sides
-use Rattle.item_files.specs.declared.profile.WireProfile.{WireProfile}
-use Rattle.item_files.specs.declared.profile.WireProfile.TheVariants as profiles
+use Rattle.rangesync_c.specs.declared.any_session.SessionProfile.{SessionProfile}
+use Rattle.rangesync_c.specs.declared.any_session.SessionProfile.TheVariants as profiles
 use Rattle.session_core.specs.declared.state.State.{State}
 use Rattle.session_core.specs.declared.state.State.TheVariants as states
 use Rattle.item_files.specs.declared.form.ItemForm.{ItemForm}
@@ -103,7 +103,7 @@ abbrev pub side_number : Side → ℕ
 side_number sides.Initiator = 0
 side_number sides.Responder = 1
 
-abbrev pub profile_number : WireProfile → ℕ
+abbrev pub profile_number : SessionProfile → ℕ
 profile_number profiles.One = 1
 profile_number profiles.Two = 2
 

@@ -24,8 +24,8 @@ use Rattle.rangesync_c.specs.declared.any_session.AnySession.{AnySession}
 use Rattle.rangesync_c.specs.declared.any_session.AnySession.TheVariants as any
 use Rattle.ends_core.specs.declared.side.Side.{Side}
 use Rattle.ends_core.specs.declared.side.Side.TheVariants as sides
-use Rattle.item_files.specs.declared.profile.WireProfile.{WireProfile}
-use Rattle.item_files.specs.declared.profile.WireProfile.TheVariants as profiles
+use Rattle.rangesync_c.specs.declared.any_session.SessionProfile.{SessionProfile}
+use Rattle.rangesync_c.specs.declared.any_session.SessionProfile.TheVariants as profiles
 
 -- what two sessions of one profile have to do with each other
 abbrev pub Relation : Type 1
@@ -85,7 +85,7 @@ TakesOff count F S W c d = Takes S W c (take count c.talk.outbox.ready) d × Lis
 abbrev pub Pulls : List ℕ → Relation
 Pulls bytes F S W c d = Takes S W c bytes d × Listens c d
 
-abbrev pub Opens : VersionState → Side → WireProfile → AnySession → Type 0
+abbrev pub Opens : VersionState → Side → SessionProfile → AnySession → Type 0
 Opens v sides.Initiator profiles.One s = IsFirst s (λ c.
     Begins two_lanes two_lane_profile v.accepted (initiating two_lanes (peer_of v.accepted v.items)) c)
 Opens v sides.Responder profiles.One s = IsSecond s (λ c.

@@ -12,10 +12,18 @@ ghost use Rattle.session_core.specs.declared.state.State.TheVariants as states;
 use crate::set::Version;
 use digest_core::{Counted, Fingerprint, WireSummary};
 use ends_core::{Initiating, Learned, Responding, Side};
-use item_files::WireProfile;
 use range_tree::Tree;
 use session_core::{Session, State};
 use std::alloc::{AllocError, Global};
+
+/// The wire profiles in which a session is opened.
+#[derive(Clone, Copy, Debug, PartialEq, Eq)]
+pub enum SessionProfile {
+    /// Profile 1.
+    One,
+    /// Profile 2.
+    Two,
+}
 
 /// A session in either role and in either profile.
 #[derive(Drop)]
@@ -66,18 +74,18 @@ impl AnySession {
         alloc: Global,
         version: Version,
         side: Side,
-        profile: WireProfile,
+        profile: SessionProfile,
     ) -> Result<AnySession, AllocError>
         ensures { IfOk result (λ s. Opens version side profile s) }
     {
         Ok(match side {
             Side::Initiator => match profile {
-                WireProfile::One => AnySession::First(first(alloc, version)?),
-                WireProfile::Two => AnySession::FirstCounted(first(alloc, version)?),
+                SessionProfile::One => AnySession::First(first(alloc, version)?),
+                SessionProfile::Two => AnySession::FirstCounted(first(alloc, version)?),
             },
             Side::Responder => match profile {
-                WireProfile::One => AnySession::Second(second(alloc, version)?),
-                WireProfile::Two => AnySession::SecondCounted(second(alloc, version)?),
+                SessionProfile::One => AnySession::Second(second(alloc, version)?),
+                SessionProfile::Two => AnySession::SecondCounted(second(alloc, version)?),
             },
         })
     }

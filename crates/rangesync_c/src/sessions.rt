@@ -9,12 +9,11 @@ ghost use Rattle.rangesync_c.specs.Meaning.{IfVersion, IfSession, IsSession, no_
 ghost use Rattle.rangesync_c.specs.Meaning.{side_number, profile_number, state_number, state_code};
 ghost use Rattle.rangesync_c.specs.Meaning.{NamesBoth, NamesNone, IsUnopened};
 
-use crate::any_session::AnySession;
+use crate::any_session::{AnySession, SessionProfile};
 use crate::codes::{FINE, MEMORY, NOT_THERE, OTHER_KIND};
 use crate::held::{Held, Slot, Thing, thing_out};
 use core::mem::replace_with;
 use ends_core::Side;
-use item_files::WireProfile;
 use std::alloc::{AllocError, Global};
 
 /// The role of a number: 0 speaks first, 1 is spoken to first.
@@ -30,19 +29,19 @@ fn side_of(number: u32) -> Option<Side>
 }
 
 /// The wire profile of a number, 1 or 2.
-fn profile_of(number: u32) -> Option<WireProfile>
+fn profile_of(number: u32) -> Option<SessionProfile>
     ensures profile { IfSome result (λ profile. (profile_number profile ≡ number) × (1 ≤ number) × (number ≤ 2)) }
     ensures none { IfNone result ((number ≡ 0) ⊎ (2 < number)) }
 {
     match number {
-        1 => Some(WireProfile::One),
-        2 => Some(WireProfile::Two),
+        1 => Some(SessionProfile::One),
+        2 => Some(SessionProfile::Two),
         _ => None,
     }
 }
 
 /// The role and the profile of their numbers.
-fn side_by(role: u32, profile: u32) -> Option<(Side, WireProfile)>
+fn side_by(role: u32, profile: u32) -> Option<(Side, SessionProfile)>
     ensures side { IfSome result (λ o. (side_number o.0 ≡ role) × (profile_number o.1 ≡ profile)) }
     ensures both { IfSome result (λ _. NamesBoth role profile) }
     ensures none { IfNone result (NamesNone role profile) }

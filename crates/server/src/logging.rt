@@ -11,7 +11,8 @@ use std::io::Write;
 use std::sync::Wait;
 use std::time::{Clock, Duration};
 use watch_core::{
-    Ending, Traffic, Visit, left_out_line, loaded_line, loading_line, log_line, lost_line,
+    Ending, SpokenProfile, Traffic, Visit, left_out_line, loaded_line, loading_line, log_line,
+    lost_line,
 };
 
 /// After how many milliseconds it is tried again where memory ran out.
@@ -173,8 +174,8 @@ pub struct OnlySession<'a> {
     pub outcome: &'a Outcome,
     /// What it cost.
     pub stats: Stats,
-    /// The wire profile that was spoken, 1 or 2, if a hello was sent.
-    pub profile: Option<u64>,
+    /// The wire profile that was spoken, if a hello was sent.
+    pub profile: Option<SpokenProfile>,
     /// Its serial, if it was counted.
     pub serial: Option<u64>,
 }

@@ -1,6 +1,6 @@
 //! One session over standard input and output, of which nothing else is read or printed.
 
-ghost use Rattle.std.specs.Prelude.{◌≡◌, ◌≤◌, ◌+◌, false, IsSome, length};
+ghost use Rattle.std.specs.Prelude.{◌≡◌, ◌≤◌, ◌+◌, false, None, IsSome, length};
 ghost use Rattle.std.specs.Arc.{arc_value};
 ghost use Rattle.definitions.specs.Histories.{content};
 ghost use Rattle.definitions.specs.Ranks.{rank_by};
@@ -9,6 +9,8 @@ ghost use Rattle.peer_threads.specs.Choices.{ChosenSpeaks};
 ghost use Rattle.peer_threads.specs.Outcomes.{traffic, seen, peer_at};
 ghost use Rattle.peer_threads.specs.Workers.{LookedOrNot, PutsInLearned, says};
 ghost use Rattle.shard_core.specs.Selectors.{says_part, selecting};
+ghost use Rattle.session_table.specs.declared.outcome.Outcome.TheVariants as outcomes;
+ghost use Rattle.server.specs.Hellos.{hello_in, own_hello, spoken_by};
 ghost use Rattle.server.specs.Wholes.{refusal_of_all};
 
 use crate::asked::Serving;
@@ -16,9 +18,12 @@ use crate::books::open_books;
 use crate::ledger::Closed;
 use crate::logging::{OnlySession, log_session};
 use crate::reporting::Reporter;
-use digest_core::{Counted, Fingerprint, WireSummary};
+use digest_core::{Counted, Fingerprint, Print, WireSummary};
 use io_core::{Watched, write_output};
-use loading::{Loaded, Metered, millis_since};
+use loading::{
+    FrameReader, FrameWriter, Loaded, Metered, frames_from, frames_to, millis_since, received_by,
+    sent_by,
+};
 use peer_loops::WRONG_SET;
 use peer_threads::{Connection, Gate, Harvest, Outcome, Shared, serve_one, settle};
 use printing_core::{Fault, Refusal, Stats, Tally, refusal_of_session, served_text, tell_dropped};
@@ -34,6 +39,7 @@ use std::sync::{Arc, Mutex, Wait};
 use std::time::{Clock, Instant};
 use tcp_front::limited;
 use version_lock::{Seat, VersionLock};
+use watch_core::SpokenProfile;
 use wire_core::encode_fault;
 
 /// The serial of the only session.
@@ -99,8 +105,8 @@ fn answer_peer<T: Wait, G: Gate, I: Read, O: Write>(
 struct Answered {
     outcome: Outcome,
     stats: Stats,
-    /// The wire profile of the hello that was sent, 1 or 2, if one was.
-    profile: Option<u64>,
+    /// The wire profile of the hello that was sent, if one was.
+    profile: Option<SpokenProfile>,
 }
 
 /// Reads the hello of a peer, or as much of it as comes.
@@ -111,13 +117,38 @@ fn hello_of<I: Read>(alloc: Global, reader: &mut I) -> Vec<u8> {
     hello
 }
 
-/// Our hello to a peer with this one: in its profile, if it has one.
-fn own_hello(hello: &[u8]) -> [u8; 4] {
-    if hello == Counted::hello().as_slice() {
-        Counted::hello()
-    } else {
-        Fingerprint::hello()
+/// The hello of a wire profile.
+fn hello_in(profile: SpokenProfile) -> [u8; 4]
+    ensures { result ≡ hello_in profile }
+{
+    match profile {
+        SpokenProfile::One => Fingerprint::hello(),
+        SpokenProfile::Two => Counted::hello(),
+        SpokenProfile::Compact => Print::hello(),
     }
+}
+
+/// The wire profile of a hello, if it is one.
+fn profile_of(hello: &[u8]) -> Option<SpokenProfile>
+    ensures { result ≡ spoken_by hello.now }
+{
+    if hello == Fingerprint::hello().as_slice() {
+        return Some(SpokenProfile::One);
+    }
+    if hello == Counted::hello().as_slice() {
+        return Some(SpokenProfile::Two);
+    }
+    if hello == Print::hello().as_slice() {
+        return Some(SpokenProfile::Compact);
+    }
+    None
+}
+
+/// Our hello to a peer with this one: in its profile, if it has one.
+fn own_hello(hello: &[u8]) -> [u8; 4]
+    ensures { result ≡ own_hello hello.now }
+{
+    hello_in(profile_of(hello).unwrap_or(SpokenProfile::One))
 }
 
 /// Writes our hello and a fault frame.
@@ -128,18 +159,25 @@ fn tell_refusal<O: Write>(writer: &mut O, hello: [u8; 4], code: u8) -> io::Resul
 }
 
 /// A session that was refused before it had begun, of a peer with this hello, of which so much was received.
-fn refused<O: Write + Drop>(writer: O, hello: &[u8], received: Tally, code: u8) -> Answered {
-    let mut writer = Metered::new(writer);
+fn refused<O: Write + Drop>(
+    mut writer: FrameWriter<O>,
+    hello: &[u8],
+    received: Tally,
+    code: u8,
+) -> Answered
+    ensures { (result.outcome ≡ outcomes.Refused code 0) × (result.stats.received ≡ received)
+        × (result.stats.millis ≡ None) }
+{
     // The refusal stands, whether the peer is told of it or not.
     let _told = tell_refusal(&mut writer, own_hello(hello), code);
     Answered {
         outcome: Outcome::Refused { code, sent: 0 },
         stats: Stats {
-            sent: writer.tally(),
+            sent: sent_by(&writer),
             received,
             millis: None,
         },
-        profile: writer.profile(),
+        profile: profile_of(&writer.hello()),
     }
 }
 
@@ -163,6 +201,7 @@ fn answer_one<T: Wait + Clock + AllocGlobal, G: Gate, I: Read + Drop, O: Write +
     seat: &mut Seat<Tree>,
     ends: (I, O),
     set: Option<SetName<'_>>,
+    most_bytes: u32,
 ) -> Answered
     requires lock { seat.old.table_id ≡ shared.now.lock.now }
     requires fits { seat.old.view.cap ≤ (arc_value shared.now.accepted.now).table.cap }
@@ -170,30 +209,34 @@ fn answer_one<T: Wait + Clock + AllocGlobal, G: Gate, I: Read + Drop, O: Write +
     ensures { seat.new.table_id ≡ seat.old.table_id }
 {
     let alloc = rt.alloc();
-    let Some(set) = set else {
-        return answer_counted(rt, alloc, shared, seat, ends);
-    };
     let (reader, writer) = ends;
+    let writer = frames_to(alloc, writer);
+    let Some(set) = set else {
+        let reader = frames_from(alloc, reader);
+        return answer_counted(rt, alloc, shared, seat, (reader, writer), most_bytes);
+    };
     let mut reader = AfterSelector::new(Metered::new(reader));
     let hello = hello_of(alloc, &mut reader);
     if let Some(code) = refusal_of(set, reader.came()) {
         return refused(writer, &hello, reader.inner().tally(), code);
     }
     let selector = reader.came().len() as u64;
-    let ends = (hello.as_slice().chain(reader), writer);
-    let mut answered = answer_counted(rt, alloc, shared, seat, ends);
+    let reader = frames_from(alloc, hello.as_slice().chain(reader));
+    let mut answered = answer_counted(rt, alloc, shared, seat, (reader, writer), most_bytes);
     let received = &mut answered.stats.received;
     received.bytes = received.bytes.saturating_add(selector);
     answered
 }
 
-/// Answers a peer over this reader and this writer, and counts what goes through them.
+/// Answers a peer over this reader and this writer, and counts what goes through them; reads no more than so many bytes
+/// of frames.
 fn answer_counted<T: Wait + Clock, G: Gate, I: Read + Drop, O: Write + Drop>(
     rt: &T,
     alloc: Global,
     shared: &Shared<'_, Tree, G>,
     seat: &mut Seat<Tree>,
-    ends: (I, O),
+    ends: (FrameReader<I>, FrameWriter<O>),
+    most_bytes: u32,
 ) -> Answered
     requires lock { seat.old.table_id ≡ shared.now.lock.now }
     requires fits { seat.old.view.cap ≤ (arc_value shared.now.accepted.now).table.cap }
@@ -202,16 +245,16 @@ fn answer_counted<T: Wait + Clock, G: Gate, I: Read + Drop, O: Write + Drop>(
 {
     let (reader, writer) = ends;
     let start = Instant::now(rt).ok();
-    let mut connection = Connection::new(Metered::new(reader), Metered::new(writer));
+    let mut connection = Connection::new(limited(reader, most_bytes), writer);
     let outcome = answer_peer(rt, alloc, shared, seat, &mut connection);
     let Connection { reader, writer } = connection;
     let writer = writer.into_inner();
     let stats = Stats {
-        sent: writer.tally(),
-        received: reader.into_inner().tally(),
+        sent: sent_by(&writer),
+        received: received_by(&reader.into_inner().into_inner()),
         millis: millis_since(rt, start),
     };
-    let profile = writer.profile();
+    let profile = profile_of(&writer.hello());
     Answered {
         outcome,
         stats,
@@ -285,9 +328,8 @@ where
         sessions: &sessions,
         gate: &reporter,
     };
-    let (reader, writer) = ends;
-    let ends = (limited(reader, serving.limits.most_bytes), writer);
-    let answered = answer_one(rt, &shared, &mut seat, ends, serving.front.set());
+    let most = serving.limits.most_bytes;
+    let answered = answer_one(rt, &shared, &mut seat, ends, serving.front.set(), most);
     let closed = reporter.close();
     let totals = sessions.into_inner().totals();
     if serving.watching.log {

@@ -7,9 +7,7 @@ use Rattle.std.specs.declared.num.ParseIntError.{ParseIntError}
 use Rattle.clap.specs.Words.{ReadsOne, TriesOne, Text, one_text, rows_of}
 use Rattle.clap.specs.declared.parser.matches.Found.{Found}
 use Rattle.clap.proofs.WalkLemmas.{one_text-rows}
-use Rattle.settings_core.specs.Calls.{Finds, IsNumber, IsWritten, profile_number}
-use Rattle.item_files.specs.declared.profile.WireProfile.{WireProfile}
-use Rattle.item_files.specs.declared.profile.WireProfile.TheVariants as profiles
+use Rattle.settings_core.specs.Calls.{Finds, IsNumber, IsWritten}
 use Rattle.settings_core.specs.Spans.{IsWithin}
 
 -- what `parse` gives at an unsigned number of k bits
@@ -90,7 +88,3 @@ pub small : (least most : ℕ) → most < 2 ^ 32 → (x : Option ℕ) → IfSome
     → IfSome x (λ n. n < 2 ^ 32)
 small least most fits None span = tt
 small least most fits (Some n) span = let high = span.1 in omega (arith, fits, high)
-
-pub profile_within : (p : WireProfile) → IsWithin 1 2 (profile_number p)
-profile_within profiles.One = (omega arith, omega arith)
-profile_within profiles.Two = (omega arith, omega arith)

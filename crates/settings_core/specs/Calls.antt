@@ -4,7 +4,8 @@
 --     CallsFor name rows call  the same of a call: its command, and whether refusals are explained
 --     WordsAskFor words call   the words, of which the first is the program's own name, are well formed and ask for
 --                              this call
---     profile_number p         how a wire profile is named
+--     profile_word p           the word that asks for a wire profile
+--     first_profile p          the wire profile of the first session that is asked for
 --     is_text form, is_hash form    whether the form of items is text, or digests of lines
 --     HasForm rows form        the form of items that is asked for
 --     Finds P found            what was found has this property; or nothing was found, and nothing has it
@@ -14,6 +15,8 @@ use Rattle.std.specs.Str.Parse.{IsNumeral, digits_value, without_leading_plus}
 use Rattle.clap.specs.Words.{Row, Text, fault_of, first_of, one_of, subcommand_of}
 use Rattle.settings_core.specs.Program.{program}
 use Rattle.settings_core.specs.Spans.{AreInSpan}
+use Rattle.settings_core.specs.declared.profiles.AskedProfile.{AskedProfile}
+use Rattle.settings_core.specs.declared.profiles.AskedProfile.TheVariants as asked
 use Rattle.settings_core.specs.declared.commands.Call.{Call}
 use Rattle.settings_core.specs.declared.commands.Command.{Command}
 use Rattle.item_files.specs.declared.form.ItemForm.{ItemForm}
@@ -62,9 +65,15 @@ abbrev pub HasForm : List Row → ItemForm → Type 0
 HasForm rows form = IsFlag (codes "hash") rows (is_hash form)
     × (one_of (codes "hash") rows ≡ Some (codes "false") → IsFlag (codes "text") rows (is_text form))
 
-abbrev pub profile_number : WireProfile → ℕ
-profile_number profiles.One = 1
-profile_number profiles.Two = 2
+abbrev pub profile_word : AskedProfile → Text
+profile_word (asked.Exactly profiles.One) = codes "1"
+profile_word (asked.Exactly profiles.Two) = codes "2"
+profile_word (asked.Exactly profiles.Compact) = codes "compact"
+profile_word asked.Best = codes "best"
+
+abbrev pub first_profile : AskedProfile → WireProfile
+first_profile (asked.Exactly profile) = profile
+first_profile asked.Best = profiles.Compact
 
 -- the value of an argument, if it has one
 abbrev pub IsAnyText : Text → List Row → Option Text → Type 0
@@ -118,7 +127,7 @@ HasValues rows (Sync w) = IsText (codes "table") rows w.table.now × IsText (cod
     × IsAnyText (codes "prefix") rows (option_map (λ text. text.now) w.prefix)
     × IsAnyText (codes "out") rows (option_map (λ text. text.now) w.out)
     × IsAnyText (codes "keep") rows (option_map (λ text. text.now) w.keep)
-    × IsNumber (codes "profile") rows (Some (profile_number w.profile))
+    × IsText (codes "profile") rows (profile_word w.profile)
     × IsNumber (codes "patience") rows (Some w.patience) × IsNumber (codes "most-bytes") rows (Some w.most_bytes)
     × IsNumber (codes "retry") rows w.retry × IsFlag (codes "check") rows w.checks
     × IsFlag (codes "count") rows w.counts × IsFlag (codes "stats") rows w.stats

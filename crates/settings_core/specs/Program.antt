@@ -120,7 +120,7 @@ sync = with_rules (new_app (codes "sync"))
     (table ∷ address ∷ flag (codes "stdio") ∷ valued (codes "set") ∷ shard_bits ∷ valued (codes "only")
     ∷ number (codes "at-once") 1 64 ∷ valued (codes "from") ∷ valued (codes "to") ∷ valued (codes "prefix")
     ∷ valued (codes "out") ∷ valued (codes "keep")
-    ∷ defaulting (number (codes "profile") 1 2) (codes "1") ∷ patience ∷ most_bytes
+    ∷ defaulting (valued (codes "profile")) (codes "1") ∷ patience ∷ most_bytes
     ∷ number (codes "retry") 0 1000 ∷ flag (codes "check") ∷ flag (codes "count") ∷ flag (codes "stats")
     ∷ flag (codes "text") ∷ flag (codes "hash") ∷ flag (codes "why") ∷ items true ∷ [])
 

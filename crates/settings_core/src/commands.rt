@@ -2,7 +2,8 @@
 
 ghost use Rattle.std.specs.Prelude.{◌≡◌, ◌||◌, is_some};
 
-use item_files::{ItemForm, WireProfile};
+use crate::profiles::AskedProfile;
+use item_files::ItemForm;
 
 /// What the words of a call ask for.
 #[derive(Clone, Copy, Debug, PartialEq, Eq)]
@@ -191,8 +192,8 @@ pub struct SyncWords<'a> {
     pub out: Option<&'a str>,
     /// The path of the file to which what is learned is appended, if one is given. It may be the item file.
     pub keep: Option<&'a str>,
-    /// The wire profile that is spoken.
-    pub profile: WireProfile,
+    /// The wire profile that is to be spoken.
+    pub profile: AskedProfile,
     /// How many seconds the connect, a read or a write may take, 1 to 86,400.
     pub patience: u32,
     /// How many bytes of the session are read, from 1,024 on.

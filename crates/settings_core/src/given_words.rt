@@ -2,14 +2,15 @@
 
 ghost use Rattle.std.specs.Prelude.{◌≡◌, ◌≤◌, codes, false, option_map, IfSome, IsSomeAnd, Some};
 ghost use Rattle.clap.specs.Words.{first_of, found_of, rows_of, subcommand_rows_of};
-ghost use Rattle.settings_core.specs.Calls.{AsksFor, CallsFor, Finds, HasForm, IsFlag, IsNumber, is_text};
-ghost use Rattle.settings_core.specs.Calls.{is_hash, profile_number};
+ghost use Rattle.settings_core.specs.Calls.{AsksFor, CallsFor, Finds, HasForm, IsFlag, IsNumber, IsText, is_text};
+ghost use Rattle.settings_core.specs.Calls.{is_hash, profile_word};
 ghost use Rattle.settings_core.specs.Spans.{IsWithin, IsWorkerCount};
 
 use crate::commands::{
     AnswerWords, Call, CheckWords, Command, NewsWords, PlanWords, PutWords, ServeWords,
     StatusWords, StopWords, SyncWords,
 };
+use crate::profiles::AskedProfile;
 use crate::spans::{
     MAX_AT_ONCE, MAX_EVERY, MAX_ITEM_LENGTH, MAX_ITEMS, MAX_MEMORY, MAX_PATIENCE, MAX_PEERS,
     MAX_PLANNED_ITEMS, MAX_RATE, MAX_RETRIES, MAX_ROUND_TRIP, MAX_SEARCH, MAX_SESSION_SECONDS,
@@ -63,23 +64,31 @@ fn default_in(matches: &ArgMatches<'_>, id: &str, least: u32, most: u32) -> Opti
     (least..=most).contains(&number).then_some(number)
 }
 
-/// The wire profile, which `clap` has read as 1 or 2.
-fn profile_in(matches: &ArgMatches<'_>) -> Option<WireProfile>
-    ensures { Finds
-        (λ p. IsNumber (codes "profile") (rows_of (found_of matches.now)) (Some (profile_number p))) result }
-{
-    match default_in(matches, "profile", 1, 2)? {
-        1 => Some(WireProfile::One),
-        2 => Some(WireProfile::Two),
-        _ => None,
-    }
-}
-
 /// The text that is given for an argument.
 fn text_in<'a>(matches: &ArgMatches<'a>, id: &str) -> Option<&'a str>
     ensures { option_map (λ text. text.now) result ≡ first_of id.now (rows_of (found_of matches.now)) }
 {
     matches.get_str(id)
+}
+
+/// The wire profile that a word asks for.
+fn profile_of(word: &str) -> Option<AskedProfile>
+    ensures { Finds (λ p. word.now ≡ profile_word p) result }
+{
+    match word {
+        "1" => Some(AskedProfile::Exactly(WireProfile::One)),
+        "2" => Some(AskedProfile::Exactly(WireProfile::Two)),
+        "compact" => Some(AskedProfile::Exactly(WireProfile::Compact)),
+        "best" => Some(AskedProfile::Best),
+        _ => None,
+    }
+}
+
+/// The wire profile that is asked for.
+fn profile_in(matches: &ArgMatches<'_>) -> Option<AskedProfile>
+    ensures { Finds (λ p. IsText (codes "profile") (rows_of (found_of matches.now)) (profile_word p)) result }
+{
+    profile_of(text_in(matches, "profile")?)
 }
 
 /// Whether a flag is given.
@@ -110,6 +119,19 @@ fn form_or_hash_in(matches: &ArgMatches<'_>) -> ItemForm
     } else {
         form_in(matches)
     }
+}
+
+/// The word for the wire profile, if it asks for none.
+pub(crate) fn wrong_profile_in<'a>(matches: &ArgMatches<'a>) -> Option<&'a str> {
+    let (name, inner) = matches.subcommand()?;
+    if name != "sync" {
+        return None;
+    }
+    let word = text_in(inner, "profile")?;
+    if profile_of(word).is_some() {
+        return None;
+    }
+    Some(word)
 }
 
 /// What the words of `answer` ask for.

@@ -10,6 +10,7 @@ mod given_words;
 mod known_words;
 mod node_words;
 mod part_words;
+mod profiles;
 mod retries;
 mod session_words;
 mod shard_sizes;
@@ -35,6 +36,7 @@ pub use item_files::{
 pub use known_words::VERSION;
 pub use node_words::{NO_ADDRESS, NodeFlaw, NodeWords, node_flaw};
 pub use part_words::{PartFlaw, PartWords, part_of};
+pub use profiles::AskedProfile;
 pub use retries::pause_before;
 pub use shard_sizes::shard_bits_for;
 pub use shard_words::{ShardFlaw, ShardWords, sharding_of};

@@ -284,13 +284,11 @@ const SYNC: [Argument<'static>; 23] = [
         value: "FILE",
         help: "Append what the server has and ITEMS lacks to this file, which may be ITEMS",
     },
-    Argument::NumberOr {
+    Argument::ValuedOr {
         name: "profile",
         value: "P",
-        least: 1,
-        most: 2,
         default: "1",
-        help: "1: the fewest bytes; 2: counts the items too, so a difference hides only between ranges of equally many",
+        help: "Speak wire profile 1, 2, compact, or best: compact with a server that knows it",
     },
     Argument::NumberOr {
         name: "patience",

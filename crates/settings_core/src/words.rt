@@ -7,8 +7,9 @@ ghost use Rattle.settings_core.specs.Spans.{AreInSpan};
 ghost use Rattle.settings_core.specs.declared.words.WordsFault.TheVariants as faults;
 
 use crate::commands::Call;
-use crate::given_words::call_in;
+use crate::given_words::{call_in, wrong_profile_in};
 use crate::known_words::program_words;
+use clap::ArgMatches;
 use clap::error::ErrorKind;
 use std::alloc::{AllocError, AllocFailed, Global};
 use std::convert::AsStr;
@@ -54,15 +55,22 @@ fn words_fault(alloc: Global, error: &clap::Error) -> WordsFault
     }
 }
 
-/// What words are told that `clap` takes and that ask for nothing: those of a `serve` without a set.
-fn items_fault(alloc: Global) -> Result<WordsFault, AllocError> {
-    Ok(WordsFault::Usage(format!(in alloc;
-        "error: give ITEMS or --keep FILE\n\nFor more information, try 'rangesync serve --help'.\n"
-    )?))
+/// What words are told that `clap` takes and that ask for nothing: those of a `sync` in a profile that is none, and
+/// those of a `serve` without a set.
+fn unasked_fault(alloc: Global, matches: &ArgMatches<'_>) -> Result<WordsFault, AllocError> {
+    Ok(WordsFault::Usage(match wrong_profile_in(matches) {
+        Some(word) => format!(in alloc;
+            "error: invalid value '{word}' for '--profile <P>'\n  [possible values: 1, 2, compact, best]\n\n\
+            For more information, try '--help'.\n"
+        )?,
+        None => format!(in alloc;
+            "error: give ITEMS or --keep FILE\n\nFor more information, try 'rangesync serve --help'.\n"
+        )?,
+    }))
 }
 
 /// What the words ask for. The first is the program's own name. Numbers out of their span ask for nothing, and neither
-/// does a `serve` that is given neither ITEMS nor a file that keeps the set.
+/// does a `sync` in a profile that is none, or a `serve` that is given neither ITEMS nor a file that keeps the set.
 pub fn read_words<'a, W: AsStr>(alloc: Global, words: &'a [W]) -> Result<Call<'a>, WordsFault>
     ensures asked { IfOk result (WordsAskFor (map W.text words.entry.now)) }
     ensures refused { IfErr result (λ e. e ≢ WordsFault.Memory →
@@ -73,7 +81,7 @@ pub fn read_words<'a, W: AsStr>(alloc: Global, words: &'a [W]) -> Result<Call<'a
         Err(error) => Err(words_fault(alloc, &error)),
         Ok(matches) => match call_in(&matches) {
             Some(call) => Ok(call),
-            None => Err(items_fault(alloc)?),
+            None => Err(unasked_fault(alloc, &matches)?),
         },
     }
 }

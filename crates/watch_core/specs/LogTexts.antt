@@ -5,7 +5,7 @@
 --     control_line a       that programs of this machine are answered at this address
 use Rattle.std.specs.Prelude.{ℕ, List, ◌++◌, codes, Bool, true, false}
 use Rattle.std.specs.Fmt.{decimal}
-use Rattle.watch_core.specs.Pieces.{seconds_text, address_text, known_text, reason_text, session_text}
+use Rattle.watch_core.specs.Pieces.{seconds_text, address_text, reason_text, session_text, spoken_text}
 use Rattle.watch_core.specs.declared.visit.Traffic.{Traffic}
 use Rattle.watch_core.specs.declared.visit.Visit.{Visit}
 
@@ -21,7 +21,7 @@ who_text time v = codes "time=" ++ (seconds_text time ++ (codes " " ++ (who_word
 
 -- in which profile, and how it ended
 abbrev pub ending_text : Visit → List ℕ
-ending_text v = codes "profile=" ++ (known_text v.profile ++ (codes " outcome="
+ending_text v = codes "profile=" ++ (spoken_text v.profile ++ (codes " outcome="
     ++ (reason_text (codes " refusal=") v.ending ++ codes " ")))
 
 abbrev pub found_text : Traffic → List ℕ

@@ -15,7 +15,7 @@ use Rattle.session_table.specs.Names.{session_refusal_name}
 use Rattle.watch_core.specs.Counting.{most}
 use Rattle.watch_core.specs.Partners.{seconds_ago, state_text}
 use Rattle.watch_core.specs.Pieces.{seconds_text, address_text, fault_text, known_text, named_ending_text, which_text}
-use Rattle.watch_core.specs.Pieces.{has_bound}
+use Rattle.watch_core.specs.Pieces.{has_bound, spoken_text}
 use Rattle.watch_core.specs.declared.counts.Counts.{Counts}
 use Rattle.watch_core.specs.declared.endings.EndingCounts.{EndingCounts}
 use Rattle.watch_core.specs.declared.page.TheConstants.{FRONT, TITLE, SET, FILE, TILES, TABLE, BAR, TABLE_END, LAST}
@@ -98,7 +98,7 @@ abbrev pub shown_session : Visit → List ℕ
 shown_session v = known_text v.serial ++ (which_text v.which ++ range_word (has_bound v.range))
 
 unfoldable pub visit_row : ℕ → Visit → List ℕ
-visit_row now v = filled ROW.now (shown_session v ∷ address_text v.address ∷ known_text v.profile
+visit_row now v = filled ROW.now (shown_session v ∷ address_text v.address ∷ spoken_text v.profile
     ∷ named_ending_text v.ending ∷ decimal v.traffic.ours ∷ decimal v.traffic.theirs ∷ decimal v.traffic.received
     ∷ decimal v.traffic.sent ∷ seconds_text v.millis ∷ decimal ((now - v.ended) / 1000) ∷ [])
 

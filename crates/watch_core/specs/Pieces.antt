@@ -2,10 +2,13 @@
 --     seconds_text millis      thousandths of a second as seconds to three places
 --     address_text address        an address, or `-`
 --     known_text n             a number, or `-`
+--     profile_text p           a wire profile
+--     spoken_text p            a wire profile, or `-`
 --     which_text w             the shard, or the directory, that a session spoke of, if it did of one
 --     bounds_text X            the bounds of a range in hex: those that it has
 --     has_bound X              whether it has one
---     session_text v           the session of a visit: its serial, or `-`, and the shard and the bounds that it spoke of
+--     session_text v           the session of a visit: its serial, or `-`, and the shard and the bounds that it spoke
+--                              of
 --     reason_text between e    how a visit ended, as a word, and after `between` the number of a refusal
 --     named_ending_text e      how a visit ended, for a person: the number and the name of a refusal
 --     turn_text t              how a turn with a partner ended, as words
@@ -26,6 +29,8 @@ use Rattle.watch_core.specs.declared.endings.Ending.{Ending}
 use Rattle.watch_core.specs.declared.endings.Ending.TheVariants as endings
 use Rattle.watch_core.specs.declared.pieces.Cell.{Cell}
 use Rattle.watch_core.specs.declared.pieces.Cell.TheVariants as cells
+use Rattle.watch_core.specs.declared.profile.SpokenProfile.{SpokenProfile}
+use Rattle.watch_core.specs.declared.profile.SpokenProfile.TheVariants as profiles
 use Rattle.watch_core.specs.declared.turn.Turn.{Turn}
 use Rattle.watch_core.specs.declared.turn.Turn.TheVariants as turns
 use Rattle.watch_core.specs.declared.visit.Visit.{Visit}
@@ -41,6 +46,15 @@ address_text (Some address) = socket_text address
 abbrev pub known_text : Option ℕ → List ℕ
 known_text None = codes "-"
 known_text (Some n) = decimal n
+
+abbrev pub profile_text : SpokenProfile → List ℕ
+profile_text profiles.One = codes "1"
+profile_text profiles.Two = codes "2"
+profile_text profiles.Compact = codes "compact"
+
+abbrev pub spoken_text : Option SpokenProfile → List ℕ
+spoken_text None = codes "-"
+spoken_text (Some profile) = profile_text profile
 
 abbrev pub which_text : Option Which → List ℕ
 which_text None = []
@@ -105,6 +119,7 @@ abbrev pub cell_text : Cell → List ℕ
 cell_text (cells.Text text) = text.now
 cell_text (cells.Number n) = decimal n
 cell_text (cells.Known n) = known_text n
+cell_text (cells.Profile profile) = spoken_text profile
 cell_text (cells.Address address) = address_text address
 cell_text (cells.Ending ending) = named_ending_text ending
 cell_text (cells.Fault t) = fault_text t

@@ -5,7 +5,7 @@ ghost use Rattle.watch_core.specs.LogTexts.{left_out_line, loaded_line, loading_
 ghost use Rattle.watch_core.specs.LogTexts.{control_line, metrics_line, who_word};
 
 use crate::named::session_text;
-use crate::pieces::{Address, Known, Reason, Seconds};
+use crate::pieces::{Address, Profile, Reason, Seconds};
 use crate::visit::Visit;
 use std::alloc::{AllocError, Global};
 
@@ -31,7 +31,7 @@ pub fn log_line(alloc: Global, time: u64, visit: &Visit) -> Result<String, Alloc
         ending: visit.ending,
         between: " refusal=",
     };
-    write!(text, "profile={} outcome={reason} ", Known(visit.profile))?;
+    write!(text, "profile={} outcome={reason} ", Profile(visit.profile))?;
     let traffic = visit.traffic;
     write!(text, "ours={} theirs={} ", traffic.ours, traffic.theirs)?;
     write!(text, "received={} sent={} ", traffic.received, traffic.sent)?;

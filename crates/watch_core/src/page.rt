@@ -273,7 +273,7 @@ fn push_visit(alloc: Global, page: &mut Vec<u8>, now: u64, visit: &Visit) -> Res
     let cells = [
         Cell::Text(&session),
         Cell::Address(visit.address),
-        Cell::Known(visit.profile),
+        Cell::Profile(visit.profile),
         Cell::Ending(visit.ending),
         Cell::Number(visit.traffic.ours),
         Cell::Number(visit.traffic.theirs),

@@ -2,9 +2,10 @@
 
 ghost use Rattle.std.specs.Prelude.{Some, ◌++◌};
 ghost use Rattle.watch_core.specs.Pieces.{address_text, cell_text, known_text, named_ending_text, reason_text};
-ghost use Rattle.watch_core.specs.Pieces.{fault_text, seconds_text, which_text};
+ghost use Rattle.watch_core.specs.Pieces.{fault_text, seconds_text, spoken_text, which_text};
 
 use crate::endings::Ending;
+use crate::profile::SpokenProfile;
 use crate::turn::Turn;
 use session_table::{Direction, session_refusal_name};
 use shard_core::Which;
@@ -53,6 +54,21 @@ impl fmt::Display for Known {
     fn fmt<W: fmt::Write>(&self, f: &mut fmt::Formatter<W>) -> fmt::Result {
         match self.0 {
             Some(number) => write!(f, "{number}"),
+            None => write!(f, "-"),
+        }
+    }
+}
+
+/// A wire profile, or `-` where none was spoken.
+#[derive(Clone, Copy)]
+pub(crate) struct Profile(pub(crate) Option<SpokenProfile>);
+
+impl fmt::Display for Profile {
+    ghost output = { λ profile. Some (spoken_text profile.0) };
+
+    fn fmt<W: fmt::Write>(&self, f: &mut fmt::Formatter<W>) -> fmt::Result {
+        match self.0 {
+            Some(profile) => write!(f, "{profile}"),
             None => write!(f, "-"),
         }
     }
@@ -155,6 +171,8 @@ pub(crate) enum Cell<'a> {
     Number(u64),
     /// A number, or `-`.
     Known(Option<u64>),
+    /// A wire profile, or `-`.
+    Profile(Option<SpokenProfile>),
     /// An address, or `-`.
     Address(Option<SocketAddr>),
     /// How a visit ended.
@@ -173,6 +191,7 @@ impl fmt::Display for Cell<'_> {
             Cell::Text(text) => write!(f, "{text}"),
             Cell::Number(number) => write!(f, "{number}"),
             Cell::Known(number) => write!(f, "{}", Known(number)),
+            Cell::Profile(profile) => write!(f, "{}", Profile(profile)),
             Cell::Address(address) => write!(f, "{}", Address(address)),
             Cell::Ending(ending) => write!(f, "{}", Named(ending)),
             Cell::Fault(fault) => write!(f, "{}", Fault(fault)),

@@ -4,6 +4,7 @@ ghost use Rattle.std.specs.Prelude.{◌≡◌};
 ghost use Rattle.watch_core.specs.Counting.{no_traffic, traffic_sum};
 
 use crate::endings::Ending;
+use crate::profile::SpokenProfile;
 use item_core::Range;
 use shard_core::Which;
 use std::net::SocketAddr;
@@ -58,8 +59,8 @@ pub struct Visit {
     pub address: Option<SocketAddr>,
     /// Whether this side has called it: it is a partner.
     pub is_called: bool,
-    /// The wire profile that it spoke, 1 or 2, if its session was opened.
-    pub profile: Option<u64>,
+    /// The wire profile that it spoke, if its session was opened.
+    pub profile: Option<SpokenProfile>,
     /// The serial of its session, if that was counted.
     pub serial: Option<u64>,
     /// The shard, or the directory, that its session spoke of; `None`: it spoke of a whole set, or was not opened.

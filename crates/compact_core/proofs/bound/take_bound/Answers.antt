@@ -8,4 +8,5 @@ returns-clause-after c =
     let some : 0 < length c.in_ok-rest.rest.now =
     omega (arith, c.in_ok-length.ensures.some c.requires, c.in_ok-rest.ensures.length) in
     after_joined c.args.before.now c.in_ok-share.share c.split_at.result.0.now c.split_at.result.1.now
-    c.in_ok-rest.rest.now c.joined.result (search rules) (search rules) (search rules) (search rules) some c.joined.ensures
+    c.in_ok-rest.rest.now c.joined.result (search rules) (search rules) (search rules) (search rules) some
+    c.joined.ensures

@@ -11,7 +11,8 @@ digits-preserved c =
     let one = digits_more (4 - (c.digits.counter + 1)) c.digits.number c.digits.bytes.now c.take_byte.new.bytes.now byte
     (search rules) large in
     record {
-      so_far = sym one ∙ ap (λ n. digits_from n c.digits.number c.digits.bytes.now) (sym places) ∙ c.digits.invariant.so_far;
+      so_far = sym one ∙ ap (λ n. digits_from n c.digits.number c.digits.bytes.now) (sym places)
+          ∙ c.digits.invariant.so_far;
       none = search rules;
       one = search rules;
       two = search rules;

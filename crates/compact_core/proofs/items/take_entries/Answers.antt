@@ -22,7 +22,8 @@ returns-in_err-item c =
     let some : 0 < length c.each.bytes.now = search rules in
     let read : Fails (errors.Stop c.in_err-item.field-0.0) (item_from c.args.width c.args.range.now.upper c.each.left
     c.each.first c.each.before c.each.bytes.now) = search rules in
-    rw (p.1, p.2) (entries_stop c.args.width c.args.range.now.upper c.each.left c.each.first c.each.before c.each.bytes.now
+    rw (p.1, p.2)
+    (entries_stop c.args.width c.args.range.now.upper c.each.left c.each.first c.each.before c.each.bytes.now
     c.each.items.items (length c.args.bytes.now.now) (errors.Stop c.in_err-item.field-0.0) _ some
     c.each.invariant.fuel read c.each.invariant.so_far)
 

@@ -13,7 +13,8 @@ answered-requires g c =
     let bytes = c.args.bytes.now.now in
     let here : field_bytes_from bytes ≡ gives c.in_ok-field.field.now c.take_field.new.bytes.now = search rules in
     let fits : IsBytes bytes = search rules in
-    answer_is_part P g.met.F.WireSummary.real X c.lower.ensures.range bytes c.take_field.new.bytes.now fits c.in-Ok.marks c.in-Ok.items.items
+    answer_is_part P g.met.F.WireSummary.real X c.lower.ensures.range bytes c.take_field.new.bytes.now fits
+    c.in-Ok.marks c.in-Ok.items.items
     (field_given (answer_in P X) bytes c.in_ok-field.field.now c.take_field.new.bytes.now _
     (Answer X c.in-Ok.marks c.in-Ok.items.items) here c.in-Ok.ensures)
 
@@ -22,5 +23,6 @@ returns-in-Err-clause-read g c =
     let P = g.F.WireSummary.profile in
     let bytes = c.args.bytes.now.now in
     let here : field_bytes_from bytes ≡ gives c.in_ok-field.field.now c.take_field.new.bytes.now = search rules in
-    rw c.in_field.ensures (field_stops (answer_in P c.args.range) bytes c.in_ok-field.field.now c.take_field.new.bytes.now
-    c.in-Err.error here c.in-Err.ensures)
+    rw c.in_field.ensures
+    (field_stops (answer_in P c.args.range) bytes c.in_ok-field.field.now c.take_field.new.bytes.now c.in-Err.error here
+    c.in-Err.ensures)

@@ -8,7 +8,8 @@ use Rattle.compact_core.proofs.parts.take_body.Goals as goal
 pub returns-in_err-range-clause-read : goal.returns-in_err-range-clause-read
 returns-in_err-range-clause-read g c =
     let p = err_from_is_err_and c.from_residual.result c.from_residual.ensures.1 in
-    let stop : Stops c.in_err-range.field-0.0 (range_from c.args.lower c.args.head c.args.bytes.now.now) = search rules in
+    let stop : Stops c.in_err-range.field-0.0 (range_from c.args.lower c.args.head c.args.bytes.now.now) =
+    search rules in
     rw (p.1, p.2)
     (body_stops g.F.WireSummary.profile c.args.lower c.args.head c.args.bytes.now.now c.in_err-range.field-0.0 stop)
 

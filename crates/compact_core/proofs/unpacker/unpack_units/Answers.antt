@@ -14,8 +14,8 @@ returns-in_err-event-clause-units g c =
     let p = err_from_is_err_and c.from_residual.result c.from_residual.ensures.1 in
     let read : Fails e (unit_at P c.units.come_to c.units.bytes.now) = search rules in
     rw (p.1, p.2) (units_fail P c.args.frames.now.items c.units.frames.items
-    (unpack P c.args.come_to.now c.args.bytes.now.now) c.units.come_to c.units.bytes.now c.next_unit.new.bytes.now e read
-    c.units.invariant.so_far)
+    (unpack P c.args.come_to.now c.args.bytes.now.now) c.units.come_to c.units.bytes.now c.next_unit.new.bytes.now e
+    read c.units.invariant.so_far)
 
 pub units-preserved : goal.units-preserved
 units-preserved g c =

@@ -6,7 +6,8 @@ use Rattle.peer_threads.specs.Outcomes.{seen}
 use Rattle.peer_threads.specs.Listening.{InStep}
 use Rattle.peer_threads.specs.Underway.{IsNone, message_came}
 use Rattle.peer_threads.proofs.Listenings.{fares-by, unbroken}
-use Rattle.peer_threads.proofs.Serving.{greeted, reads-on, stops-ungreeted, stops-broken-after, stops-begun, told}
+use Rattle.peer_threads.proofs.FirstMessages.{reads-on, stops-begun}
+use Rattle.peer_threads.proofs.Serving.{greeted, stops-ungreeted, stops-broken-after, told}
 use Rattle.peer_threads.proofs.engines.first_message.Goals as goal
 
 pub returns-in_err-inbox-clause-stopped : goal.returns-in_err-inbox-clause-stopped

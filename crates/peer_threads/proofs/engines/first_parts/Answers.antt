@@ -3,8 +3,9 @@ use Rattle.std.proofs.lemmas.Result.{err_from_is_err_and}
 use Rattle.wire_core.specs.Events.{event_value}
 use Rattle.peer_threads.specs.Outcomes.{seen}
 use Rattle.peer_threads.specs.Underway.{FirstWent}
-use Rattle.peer_threads.proofs.Serving.{told, parts-fit, parts-none, parts-more, parts-ended, parts-stopped}
-use Rattle.peer_threads.proofs.Serving.{parts-refused}
+use Rattle.peer_threads.proofs.FirstMessages.{parts-fit, parts-none, parts-more, parts-ended, parts-stopped}
+use Rattle.peer_threads.proofs.FirstMessages.{parts-refused}
+use Rattle.peer_threads.proofs.Serving.{told}
 use Rattle.peer_threads.proofs.engines.first_parts.Goals as goal
 
 pub parts-init : goal.parts-init

@@ -1,8 +1,8 @@
-use Rattle.std.proofs.Common.{◌≡◌, ℕ, ◌+◌, ◌≤◌, false, List}
+use Rattle.std.proofs.Common.{◌≡◌, ℕ, ◌+◌, ◌≤◌, false}
 use Rattle.peer_threads.specs.Inboxes.{Reads}
 use Rattle.peer_threads.specs.Listening.{InStep, rest_of}
 use Rattle.peer_threads.specs.Underway.{MayBegin, first_place}
-use Rattle.peer_threads.proofs.Serving.{HasParts}
+use Rattle.peer_threads.proofs.FirstMessages.{HasParts}
 use Rattle.peer_threads.proofs.engines.first_parts.Given as goal
 
 -- the parts that came so far may stand first, and all else waits

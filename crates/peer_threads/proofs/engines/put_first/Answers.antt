@@ -6,7 +6,8 @@ use Rattle.place_core.specs.PlaceFaults.{place_fault_number}
 use Rattle.wire_core.specs.Events.{event_value}
 use Rattle.peer_threads.specs.Stops.{of_placing}
 use Rattle.peer_threads.specs.Underway.{Refuses, first_held, first_place}
-use Rattle.peer_threads.proofs.Serving.{part-refused, end-refused, told}
+use Rattle.peer_threads.proofs.FirstMessages.{part-refused, end-refused}
+use Rattle.peer_threads.proofs.Serving.{told}
 use Rattle.peer_threads.proofs.engines.put_first.Goals as goal
 
 pub returns-in_err-next-in-Part-clause-stopped : goal.returns-in_err-next-in-Part-clause-stopped

@@ -10,6 +10,6 @@ invariant-loop-place g l = record {
   cap : l.seat.view.cap ≡ l.fn.seat.view.cap;
   enrolled : IsSome l.seat.view.writer;
   few : l.dropped ≤ l.place;
-  so_far : Puts (PutInAll (may_stand l.scope.own l.scope.floor)) (take l.first l.items) (drop l.place (take l.first l.items)) l.fn.seat.view l.seat.view
-      l.dropped;
+  so_far : Puts (PutInAll (may_stand l.scope.own l.scope.floor)) (take l.first l.items)
+      (drop l.place (take l.first l.items)) l.fn.seat.view l.seat.view l.dropped;
 }

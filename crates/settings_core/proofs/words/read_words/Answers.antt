@@ -40,12 +40,12 @@ returns-in-Err-clause-refused g c =
       | inr among ↦ subst (IsAmong (kind_of c.in-Err.error)) (ap (λ a. fault_of a words) is ∙ asks.0) among
     ]
 
-pub returns-in_err-items_fault-in-None-clause-refused : goal.returns-in_err-items_fault-in-None-clause-refused
-returns-in_err-items_fault-in-None-clause-refused g c =
+pub returns-in_err-unasked_fault-in-None-clause-refused : goal.returns-in_err-unasked_fault-in-None-clause-refused
+returns-in_err-unasked_fault-in-None-clause-refused g c =
     let is = c.in_ok-program_words.ensures.0 in
     let words = map g.W.AsStr.text c.args.words.now in
     let entered = (c.in-Ok.ensures.matches (ap is_simple is ∙ simple)).1 ∙ ap (λ a. subcommand_of a words) is in
-    each_error c.from_residual-in_err-items_fault-in-None.result _ _
+    each_error c.from_residual-in_err-unasked_fault-in-None.result _ _
     (λ asked asks. c.in-None.ensures asked (subst (λ o. IsSomeAnd o (λ p. CallsFor p.0 p.1 asked)) (sym entered)
     asks.1))
 

@@ -1,5 +1,5 @@
-use Rattle.std.proofs.Common.{rules, ap, arith, OnOk}
-use Rattle.std.specs.Io.Take.{take_remaining}
+use Rattle.std.proofs.Common.{◌≡◌, rules, ap, arith, OnOk}
+use Rattle.std.specs.Io.Take.{take_inner, take_remaining}
 use Rattle.hub_core.specs.Peers.{EndsPhase, GoesSo, LeavesOff}
 use Rattle.hub_core.specs.Hubs.{HubState}
 use Rattle.hub_core.proofs.Held.{room-changed, held-enough, held-changed}
@@ -41,3 +41,8 @@ returns-clause-over g c =
     of-both (λ p q. OnOk c.pump-did.result (EndsPhase p.phase q.phase q.reader.last)) c.args.self.now.peers
     c.self.inside.peers c.args.key c.in_ok-peer.peer.now c.pump-did.new.self
     (ap (λ (h : HubState g.row.I.Denot g.row.O.Denot). h.peers) c.self.view_is) (search rules) c.pump-did.ensures.over
+
+pub returns-clause-waits : goal.returns-clause-waits
+returns-clause-waits g c =
+    of-one (λ q. q.waits ≡ g.I.Keeping.keeps (take_inner q.reader.way)) c.self.inside.peers c.args.key
+    c.in_ok-peer.peer.now c.pump-did.new.self (search rules) c.pump-did.ensures.waits

@@ -1,9 +1,10 @@
 use Rattle.std.proofs.Common.{rules, ◌≡◌}
-use Rattle.definitions.specs.Fingerprints.{two_lanes, counted_lanes}
-use Rattle.definitions.specs.Wire.{two_lane_profile, counted_profile}
+use Rattle.definitions.specs.Fingerprints.{two_lanes, counted_lanes, compact_prints}
+use Rattle.definitions.specs.Wire.{two_lane_profile, counted_profile, compact_profile}
 use Rattle.hub_core.specs.declared.phase.Phase.TheVariants as phases
 use Rattle.hub_core.proofs.Peering.{session-goes}
-use Rattle.hub_core.proofs.Leaving.{plain-leaves, counted-leaves, plain-ends, counted-ends}
+use Rattle.hub_core.proofs.Leaving.{plain-leaves, counted-leaves, compact-leaves}
+use Rattle.hub_core.proofs.Leaving.{plain-ends, counted-ends, compact-ends}
 use Rattle.hub_core.proofs.phase.Phase.pump.Goals as goal
 
 pub returns-in-Plain-clause-moved : goal.returns-in-Plain-clause-moved
@@ -23,6 +24,15 @@ returns-in-Counted-clause-moved g c =
     c.deref_mut-in-Counted.result.now c.pump-in-Counted.new.session _ _ _ _ is same
     c.pump-in-Counted.ensures.moved
 
+pub returns-in-Compact-clause-moved : goal.returns-in-Compact-clause-moved
+returns-in-Compact-clause-moved g c =
+    let is : c.args.self.now ≡ phases.Compact c.in-Compact.session = search rules in
+    let same : c.deref_mut-in-Compact.result.now ≡ c.in-Compact.session.value = search rules in
+    session-goes compact_prints compact_profile phases.Compact (λ c d read said on. on)
+    c.pump-in-Compact.result c.args.self.now c.in-Compact.session
+    c.deref_mut-in-Compact.result.now c.pump-in-Compact.new.session _ _ _ _ is same
+    c.pump-in-Compact.ensures.moved
+
 pub returns-in-Plain-clause-leaves : goal.returns-in-Plain-clause-leaves
 returns-in-Plain-clause-leaves g c =
     plain-leaves c.pump-in-Plain.result c.in-Plain.session c.pump-in-Plain.new.session _ _
@@ -32,6 +42,11 @@ pub returns-in-Counted-clause-leaves : goal.returns-in-Counted-clause-leaves
 returns-in-Counted-clause-leaves g c =
     counted-leaves c.pump-in-Counted.result c.in-Counted.session c.pump-in-Counted.new.session _ _
     c.pump-in-Counted.ensures.stands c.pump-in-Counted.ensures.fails
+
+pub returns-in-Compact-clause-leaves : goal.returns-in-Compact-clause-leaves
+returns-in-Compact-clause-leaves g c =
+    compact-leaves c.pump-in-Compact.result c.in-Compact.session c.pump-in-Compact.new.session _ _
+    c.pump-in-Compact.ensures.stands c.pump-in-Compact.ensures.fails
 
 pub returns-in-Plain-clause-over : goal.returns-in-Plain-clause-over
 returns-in-Plain-clause-over g c =
@@ -45,3 +60,10 @@ returns-in-Counted-clause-over g c =
     counted-ends c.pump-in-Counted.result c.args.self.now c.in-Counted.session c.deref_mut-in-Counted.result.now
     c.pump-in-Counted.new.session c.pump-in-Counted.new.reader.last (search rules) same
     c.pump-in-Counted.ensures.over
+
+pub returns-in-Compact-clause-over : goal.returns-in-Compact-clause-over
+returns-in-Compact-clause-over g c =
+    let same : c.deref_mut-in-Compact.result.now ≡ c.in-Compact.session.value = search rules in
+    compact-ends c.pump-in-Compact.result c.args.self.now c.in-Compact.session c.deref_mut-in-Compact.result.now
+    c.pump-in-Compact.new.session c.pump-in-Compact.new.reader.last (search rules) same
+    c.pump-in-Compact.ensures.over

@@ -11,7 +11,8 @@ loop-item-preserved g c =
     let own = (arc_value c.args.self.now.part).own in
     let count = c.in_ok-left_out.field-0 in
     let left : left_out_by c.add.result ≡ Some count = search rules in
-    let adds : Adds own c.item-item.result c.loop-item.self.seat.view c.add.new.self.seat.view c.add.result = search rules in
+    let adds : Adds own c.item-item.result c.loop-item.self.seat.view c.add.new.self.seat.view c.add.result =
+    search rules in
     let within : c.loop-item.item-index < length c.args.items.now = search rules in
     let few : count ≤ 1 = few_more c.add.result count left in
     let before : c.loop-item.left_out ≤ c.loop-item.item-index = search rules in

@@ -7,6 +7,7 @@ use Rattle.peer_loops.proofs.desk.Desk.add_each.Given as goal
 abbrev pub invariant-loop-item : goal.invariant-loop-item
 invariant-loop-item g l = record {
   part : l.self.part ≡ l.fn.self.part;
-  took : Took (arc_value l.fn.self.part).own (take l.item-index l.items) l.fn.self.seat.view l.self.seat.view l.left_out;
+  took : Took (arc_value l.fn.self.part).own (take l.item-index l.items) l.fn.self.seat.view l.self.seat.view
+      l.left_out;
   few : l.left_out ≤ l.item-index;
 }

@@ -13,6 +13,6 @@ returns g c =
     let at = slice_get_read xs (length xs) k c.in_ok-desk.desk.now refl c.in_ok-desk.ensures.item.3.0
     c.in_ok-desk.ensures.value in
     record {
-      nothing = nothing_in (λ (d : Desk). held (arc_value d.part).own d.seat.view) c.args.self.now xs k c.in_ok-desk.desk.now c.pin.new.self
-          (sym c.self.view_is) at c.pin.ensures.view.nothing.0;
+      nothing = nothing_in (λ (d : Desk). held (arc_value d.part).own d.seat.view) c.args.self.now xs k
+          c.in_ok-desk.desk.now c.pin.new.self (sym c.self.view_is) at c.pin.ensures.view.nothing.0;
     }

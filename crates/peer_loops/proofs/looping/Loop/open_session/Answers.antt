@@ -18,7 +18,8 @@ use Rattle.peer_loops.proofs.looping.Loop.open_session.Goals as goal
 
 pub returns-in-Shard : goal.returns-in-Shard
 returns-in-Shard g c = record {
-  shard = on_ok c.open.result _ _ c.open.ensures.opens (λ (place, is, (d, e, at, set, (part, looked, opens))) p q at-p at-q number range chosen.
+  shard = on_ok c.open.result _ _ c.open.ensures.opens (λ (place, is, (d, e, at, set, (part, looked, opens))) p q
+      at-p at-q number range chosen.
       over_chosen (λ w X. (x : ℕ) × (place_for c.args.desks.now.first (Some w) ≡ Some x)
       × ((f : Floor) × g.G.Gate.floors c.args.site.now.common.now.gate.now f
       × ChangesOne x c.args.desks.now.list.items c.open.new.self.list.items (λ d e. (e.part ≡ d.part)

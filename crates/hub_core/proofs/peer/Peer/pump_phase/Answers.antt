@@ -1,7 +1,7 @@
 use Rattle.std.proofs.Common.{rules, ◌≡◌, ◌∙◌, Err, subst}
 use Rattle.std.specs.Io.Take.{take_remaining}
 use Rattle.hub_core.specs.Peers.{PeerState, GoesSo}
-use Rattle.hub_core.proofs.peer.Peer.pump.Goals as goal
+use Rattle.hub_core.proofs.peer.Peer.pump_phase.Goals as goal
 
 pub returns-in_err-step-clause-moved : goal.returns-in_err-step-clause-moved
 returns-in_err-step-clause-moved g c =
