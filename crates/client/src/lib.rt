@@ -11,6 +11,7 @@ mod http;
 mod keeping;
 mod printing;
 mod reaching;
+mod resumed;
 mod sessions;
 mod shard_session;
 mod stdio;

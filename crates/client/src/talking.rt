@@ -4,6 +4,7 @@ ghost use Rattle.std.specs.Prelude.{◌≡◌, ◌≤◌};
 ghost use Rattle.std.specs.Arc.{arc_value};
 ghost use Rattle.settings_core.specs.declared.profiles.AskedProfile.TheVariants as asked;
 
+use crate::resumed::Resumed;
 use digest_core::{Counted, Fingerprint, Print, WireSummary};
 use io_core::{Watched, write_output};
 use item_core::Range;
@@ -77,12 +78,12 @@ fn dial<R: Wait + Clock, I: Read + Drop, O: Write + Drop, F: WireSummary>(
 {
     let (reader, writer) = ends;
     let start = Instant::now(rt).ok();
-    let mut connection = Connection::new(limited(reader, most_bytes), writer);
+    let mut connection = Connection::new(limited(Resumed::new(reader), most_bytes), writer);
     let outcome = dial_one::<_, _, _, _, _, F>(rt, alloc, shared, seat, &mut connection);
     let Connection { reader, writer } = connection;
     let stats = Stats {
         sent: sent_by(&writer.into_inner()),
-        received: received_by(&reader.into_inner().into_inner()),
+        received: received_by(&reader.into_inner().into_inner().into_inner()),
         millis: millis_since(rt, start),
     };
     (outcome, stats)
